@@ -40,7 +40,7 @@ sys.stdout.write(head + "".join(parts) + tail)
 P
 }
 
-# millis RUNS COMMAND..: the milliseconds of processor time of RUNS runs, which other work on the machine changes little
+# millis RUNS COMMAND..: the milliseconds of processor time of RUNS runs; other work on the machine changes them little
 millis() {
   local runs=$1 TIMEFORMAT='%U %S'; shift
   { time for _ in $(seq "$runs"); do "$@" >/dev/null; done; } 2>&1 | awk '{ printf "%d\n", ($1 + $2) * 1000 }'

@@ -1,13 +1,15 @@
 #!/usr/bin/env bash
 # What the library costs in addition to the file in which it lies, by ratios within one run: store.sh [FOLDER] (this one).
-# First durable commits: COUNT (500) in a session of `cclib library`, and a program in C (commits.c) that makes the same two writes and two syncs the
-# same number of times on a file of the same length, in turn, ROUNDS times (20). The commits are `withdraw`, which appends a record of 16 bytes, and
-# `compact` of a library of one unit, which writes the unit's record of 628 or 12,028 bytes again. Neither compiles. The ratio is its time / ours, the
-# best of each minus the best of a start that does nothing: 1.0 is as fast. Times are by the wall clock, and by the processor, which other work on the
-# machine disturbs less, in steps of a millisecond. If others use the device, more rounds of fewer commits find a quiet moment. Then opening: a
-# library of UNITS units (1,000) is opened by `cclib source`, minus a start over a library of one unit; this is compared with reading the library's
-# file with one call, in turn, by the wall clock, and the least of ROUNDS times of each counts. The file has two areas, and opening reads one of them;
-# opening also syncs twice. Build the program first (./cclib), or set CCLIB to a built one.
+# First durable commits: COUNT (500) in a session of `cclib library`, and a program in C (commits.c) that makes the same
+# two writes and two syncs the same number of times on a file of the same length, in turn, ROUNDS times (20). The commits
+# are `withdraw`, which appends a record of 16 bytes, and `compact` of a library of one unit, which writes the unit's
+# record of 628 or 12,028 bytes again. Neither compiles. The ratio is its time / ours, the best of each minus the best of
+# a start that does nothing: 1.0 is as fast. Times are by the wall clock, and by the processor, in steps of a millisecond:
+# these are disturbed less by other work on the machine. If others use the device, more rounds of fewer commits find a
+# quiet moment. Then opening: the time that `cclib source` takes over a library of UNITS units (1,000), minus that over a
+# library of one unit, is compared with the time to read the library's file with one call, in turn, by the wall clock, and
+# the least of ROUNDS times of each counts. The file has two areas, and opening reads one of them; opening also syncs
+# twice. Build the program first (./cclib), or set CCLIB to a built one.
 set -eu
 # shellcheck source=bench/words.sh
 . "$(dirname "$0")/words.sh"

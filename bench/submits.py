@@ -103,7 +103,7 @@ def memory(seconds=600, submitters=24, units=1000):
         put_unit(place, name, UNIT)
         while time.time() < end:
             texts = [LARGE if chance.random() < 0.5 else UNIT for _ in range(2)]
-            # The history keeps the names of each list, so lists fill a generation soonest.
+            # The history keeps the names of each list, so lists fill a generation fastest.
             script = "list\n" * 10 + "".join(f"replace {name} {len(it)}\n{it}\nrun {name} 100000\n" for it in texts)
             said = place.submit(script=script).stdout.split("\n")[:-1]
             others = [it for it in said if not re.fullmatch(r"ok \d+|unit \w+|-?\d+|exited -?\d+|going|trapped|fault 34 Full", it)]

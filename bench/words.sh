@@ -19,7 +19,7 @@ fail() {
     exit 1
 }
 
-# room [FOLDER]: a folder to write to, in $work, gone at the end
+# room [FOLDER]: a folder to write to, in $work, removed at the end
 room() {
     work=$(mktemp -d ${1:+"$1/$script.XXXXXX"})
     trap 'rm -rf "$work"' EXIT
@@ -43,14 +43,14 @@ best() {
     awk -v clock="${2:-}" '{ t = clock ? $1 : $2 + $3 } NR == 1 || t < low { low = t } END { printf "%.6f", low }' "$work/time.$1"
 }
 
-# seconds OUTPUT COMMAND..: the processor's seconds of one run
+# seconds OUTPUT COMMAND..: the processor seconds of one run
 seconds() {
     local TIMEFORMAT='%U %S' output=$1
     shift
     { time "$@" > "$output" 2> /dev/null; } 2>&1 | awk '{ print $1 + $2 }'
 }
 
-# least A [B], less A B, ratio A B, part_of A COUNT: the minimum, the difference, the ratio, and a part with all digits
+# least A [B], less A B, ratio A B, part_of A COUNT: the minimum, the difference, the ratio, and A / COUNT with nine digits
 least() { awk -v a="$1" -v b="${2:-$1}" 'BEGIN { print a < b ? a : b }'; }
 less() { awk -v a="$1" -v b="$2" 'BEGIN { printf "%.6f", a - b }'; }
 ratio() { awk -v a="$1" -v b="$2" 'BEGIN { printf "%.3f", a / b }'; }

@@ -1,8 +1,8 @@
 #!/usr/bin/env python3
 """Compiles the units of a library anew, so that an audit confirms them again: for a library that an earlier compiler has filled.
 
-replace.py LIBRARY [FOLDER], or cclib-replace of an install: audits the library in the file LIBRARY by `cclib library`. Each unit that is not confirmed is replaced by a
-compilation of its own source: the one that the library's file has of it (docs/FORMATS.md), or that of FOLDER/NAME.c. If the library is
+replace.py [--checked] LIBRARY [FOLDER], or cclib-replace of an install: audits the library in the file LIBRARY by `cclib library`, with
+--checked for a library of checked units. Each unit that is not confirmed is replaced by a compilation (with --checked a checked one) of its own source: the one that the library's file has of it (docs/FORMATS.md), or that of FOLDER/NAME.c. If the library is
 full (34) it is compacted once and the change is made again. Then all are audited again. A unit whose source is refused stays as it is.
 Says how many were confirmed before and are now; the status is 1 if one is not. The program is the one beside it, or that of the
 repository, which has to be built (./cclib)."""
@@ -37,8 +37,8 @@ def sources(path):
 class Session:
     """A session on the library's file, line by line."""
 
-    def __init__(self, path):
-        self.process = subprocess.Popen([PROGRAM, "library", path, "--quiet"], stdin=subprocess.PIPE, stdout=subprocess.PIPE)
+    def __init__(self, path, options):
+        self.process = subprocess.Popen([PROGRAM, "library", path, "--quiet", *options], stdin=subprocess.PIPE, stdout=subprocess.PIPE)
 
     def call(self, script):
         """The lines that answer one command, up to the one that ends it."""
@@ -77,18 +77,20 @@ def replace(session, name, source):
 
 
 def main():
-    if len(sys.argv) not in (2, 3):
+    options = [it for it in sys.argv[1:] if it == "--checked"]
+    places = [it for it in sys.argv[1:] if it != "--checked"]
+    if len(places) not in (1, 2) or len(options) > 1:
         sys.exit(__doc__)
-    path = sys.argv[1]
+    path = places[0]
     kept = sources(path)
-    session = Session(path)
+    session = Session(path, options)
     before = audited(session)
     for name, confirmed in sorted(before.items()):
         if confirmed:
             continue
         source = kept[name]
-        if len(sys.argv) == 3:
-            with open(os.path.join(sys.argv[2], name + ".c"), "rb") as file:
+        if len(places) == 2:
+            with open(os.path.join(places[1], name + ".c"), "rb") as file:
                 source = file.read()
         answer = replace(session, name, source)
         if not answer.startswith("ok"):

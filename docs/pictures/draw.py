@@ -42,7 +42,7 @@ PASSES = {
     "to_cminor": ("CminorPair", "numbered variables", "cc_cminor: Pair", "KeepsUp", "The code keeps up with the C function: its output, its end, its loops."),
     "guard": ("CminorPair", "with guards", "cc_cminor: Pair", "KeepsUp", "Only in a checked image: keeps up with the function that stops in place."),
     "to_rtl": ("RtlPair", "a graph of nodes", "cc_rtl_language: Pair", "KeepsUp", "The same, over as many pseudo-registers as are needed."),
-    "drop_faint": ("RtlPair", "without dead nodes", "cc_live: Liveness", "IsWithoutFaint", "The same; only nodes that nobody needs are gone."),
+    "drop_faint": ("RtlPair", "without dead nodes", "cc_live: Liveness", "IsWithoutFaint", "The same; only nodes whose results nobody needs are gone."),
     "colour": ("Ltl", "registers and slots", None, None, "Nothing: the allocator is not trusted."),
     "validate": ("LtlPair", "LTL, validated", "cc_validate: Pair", "KeepsUp", "The same, whatever unknown registers hold. Its LTL goes into the certificate."),
     "linearise": ("LinearPair", "one list with jumps", "cc_linear_language: Pair", "KeepsUp", "The same, after blocks have become labels and jumps."),
@@ -163,8 +163,8 @@ def steps_of_a_text():
 def passes():
     left, wide, tall, step, top = 30, 210, 40, 66, 118
     out = [words(30, 36, "The way of a text, and the fact that each step keeps", "title")]
-    out += [words(30, 58, "Each call takes the value above it. The fact beside a value is kept by its type, so no later step can lose it, or promised by the call.", "soft")]
-    out += [words(x, 92, it, "head") for x, it in ((left, "value"), (270, "the fact"), (770, "refuses with"))]
+    out += [words(30, 58, "Each call takes the value above it. The fact beside a value is part of its type, so no later step can lose it, or a clause of the call.", "soft")]
+    out += [words(x, 92, it, "head") for x, it in ((left, "value"), (270, "the fact"), (800, "refuses with"))]
     steps = steps_of_a_text()
     out += [box(left, top - 8, wide, 28, "box"), words(left + wide / 2, top + 11, "C text, 65,536 bytes at most", "", "middle")]
     y = top + 20
@@ -178,14 +178,14 @@ def passes():
         if page:
             out += [words(270, y + 17, kept, "code strong"), words(270 + 7.7 * len(kept) + 14, y + 17, page, "soft")]
         out += [words(270, y + (34 if page else 25), said)]
-        out += [words(770, y + 17 + 17 * at, it) for at, it in enumerate(filter(None, refused.split("; ")))]
+        out += [words(800, y + 17 + 17 * at, it) for at, it in enumerate(filter(None, refused.split("; ")))]
         y += tall
     foot = (
-        "A run keeps up with another if it reaches whatever that reaches, in at most so many moves for each step. A pass makes the bound "
-        "larger, and nobody asks how large it is. At the end the law linked_units_follow of cc_link makes of it that the image follows the "
-        "program: compile_in (follows). If the source goes wrong, a plain image owes only what the source had written when it last spent a "
+        "A run keeps up with another if it gets as far, with a bounded number of moves for each of the other's steps. Passes may raise the "
+        "bound; no promise depends on it. From the last such fact, linked_units_follow of cc_link proves that the image follows the program: "
+        "compile_in (follows). If the source goes wrong, a plain image has to write only what the source had written when it last spent a "
         "step; a checked image stops in place, unless the cause is a 1,025th open call. Dashed boxes: guard is a step of checked images "
-        "alone; colour is not trusted, so validate compares its code with the graph."
+        "only; colour is not trusted, so validate compares its code with the graph."
     )
     out += wrapped(30, y + 36, foot, 138, "soft", 18)
     about = "; ".join(f"{one} gives {PASSES[one][0]}: {PASSES[one][4]}" for one, _, _ in steps)
@@ -241,10 +241,10 @@ def commit():
     heads = ["before", "1  write", "2  sync", "3  write of one byte", "4  sync"]
     leaves = [
         "the old records",
-        "the old records: what was torn counts for nothing",
+        "the old records: torn bytes are ignored",
         "during it: as after 1; after it: the old records",
         "the old records or the new ones, each whole",
-        "during it: as after 3; after it: the new records. Only now the call answers",
+        "during it: as after 3; after it: the new records. Only then does the call answer",
     ]
     out = [words(30, 36, "A commit on the medium, and what a power cut leaves", "title")]
     out += [words(30, 58, "An append and a rewrite are the same four device calls. One byte decides, and no checksum is trusted.", "soft")]
@@ -258,10 +258,10 @@ def commit():
                 out += wrapped(x, y + 50, why.replace("`", ""), most, "soft")
         out += wrapped(920, y + 24, leaves[at], 38, "strong" if at == 4 else "", 18)
         if at in EDITS:
-            out += [words(920, y + 66, "Done otherwise, the proof fails:", "soft")] + wrapped(920, y + 82, EDITS[at], 44, "soft")
+            out += [words(920, y + 66, "The proof refuses this wrong body:", "soft")] + wrapped(920, y + 82, EDITS[at], 44, "soft")
         y += tall if at else 50
     out += [f'  <path d="M30 {y - 2} H1220" class="rule"/>']
-    for x, style, text in ((30, "old", "settled before"), (190, "open", "unsettled: any bytes after a cut"), (450, "new", "settled by this commit"), (660, "free", "counts for nothing")):
+    for x, style, text in ((30, "old", "settled before"), (190, "open", "unsettled: any bytes after a cut"), (450, "new", "settled by this commit"), (660, "free", "ignored")):
         out += [box(x, y + 14, 22, 16, style, 2), words(x + 30, y + 27, text, "soft")]
     names = fault_names()
     foot = (

@@ -3,7 +3,8 @@
 # The image is at its two places already: the code at 0x00010000, the globals that it starts with at 0x00200000 (cclib image says both). `globals_end`
 # is the address behind these, given to the linker. Everything here is position independent but for that; team.sh links it to 0x00001000.
 #
-# Registers: x2 is 0x00800000 at the image's first word. All others may hold anything: the image rests on none of them.
+# Registers: x2 is 0x00800000 at the image's first word. All others may hold anything: no image depends on them
+# (docs/MACHINE.md, "On a board", says what is proved of that).
 
         .globl  _start
 _start: la      t0, service             # where an ecall goes

@@ -133,7 +133,7 @@ def units_of(image):
         if kind == 3:
             del units[name]
         else:
-            # Source, code, globals; in version 2 a certificate.
+            # Source, code, globals; in version 2 also a certificate.
             for it, width in enumerate((1, 4, 4, 1)[: version + 2]):
                 size = width * number_at(body, at)
                 units[name] = units[name] if it else body[at + 4 : at + 4 + size].decode()

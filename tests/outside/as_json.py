@@ -126,7 +126,8 @@ def same(words, text, files, kinds):
     if files:
         wanted = [line.replace("A.c, B.c: ", "-: ") for line in wanted]
     if words[0] in ("call", "diff", "log"):
-        # These explain a file in words of their own; a fault also has the words of its number.
+        # These commands explain what is wrong with a file in words of their own; in JSON a fault also has the
+        # message of its number.
         said = [f"cclib: {message(it)}" for it in objects if it["kind"] == "fault" and "message" in it]
         err = [line for line in err if line not in said or line in wanted]
     if not right or err != wanted:

@@ -1899,15 +1899,15 @@ def done_reported(place):
 SENTENCES = [
     ("docs/SERVICE.md", "protected_hardlinks", "what fs.protected_hardlinks=0 lets a stranger do"),
     ("docs/SERVICE.md", r"LimitAS=", "a line LimitAS= in the unit file"),
-    ("docs/SERVICE.md", r"lease-break-time", "fs.lease-break-time"),
-    ("docs/SERVICE.md", r"leases-enable", "fs.leases-enable"),
+    ("SECURITY.md", r"lease-break-time", "fs.lease-break-time"),
+    ("SECURITY.md", r"leases-enable", "fs.leases-enable"),
     ("docs/SERVICE.md", r"--done", "the option --done"),
     ("docs/SERVICE.md", r"--patience", "the option --patience"),
     ("docs/SERVICE.md", r"\b61\b", "fault 61"),
     ("docs/SERVICE.md", r"rm [^\n]*new/ID[^|]{0,200}sync", "`sync` beside the advice to `rm new/ID`"),
     ("docs/LANGUAGE.md", r"\b61\b", "fault 61"),
-    ("docs/FORMATS.md", r"(?is)who has no\s+`cclib`.{0,400}sync", "that who has no `cclib` syncs tmp/ID before the link"),
-    ("README.md", r"ulimit -f", "`ulimit -f` beside `ulimit -s`"),
+    ("docs/FORMATS.md", r"(?s)by hand: `sync\s+FOLDER/tmp/", "that a client without `cclib` syncs tmp/NAME before the link"),
+    ("docs/LANGUAGE.md", r"ulimit -f", "`ulimit -f` beside `ulimit -s`"),
 ]
 GONE = [
     ("crates/cc_spool/src/submission.rt", "nobody else answers in the server's place"),

@@ -50,7 +50,8 @@ CONSTANTS = "0 1 2 3 7 31 32 255 2147483647 1u 5u 4294967295u 0x80000000 0x7ffff
 VARIABLES = "a b c u v w l m n s t o".split()
 
 
-# More of a program, from random numbers of its own, so that the rest stays as it was for a seed.
+# A further part of a program. It takes random numbers of its own, so that each seed still gives the same
+# other parts.
 
 
 def near(more):

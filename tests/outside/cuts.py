@@ -7,10 +7,10 @@ cuts.py [COUNT [SEED]]    16 submitters leave scripts in a server's folder, and 
                           synced and a part of what was written after it; of the library's file any part of what was not synced. In each state a
                           real server starts, does what waits and is stopped.
 
-Then no unit is missing whose script had `ok` printed; no unit is there whose script was taken back (58); no script was done twice (each adds a unit
-of its own, so the second time would be refused with 31); each script that waited has an answer or was done; an answer that was in `done` is what it
-was. strace is needed. Anybody can run this, root or not; CCLIB names a program other than this repository's. DROP=new leaves out the syncs of that
-folder, to show what they are for."""
+Then each unit is there for which a client printed `ok`; no unit is there whose script was taken back (58); no script was done twice (each adds a
+unit of its own, so the second time would be refused with 31); each script that waited has an answer or was done; an answer that was in `done` is
+unchanged. strace is needed. Anybody can run this, root or not; CCLIB names a program other than this repository's. DROP=new leaves out the syncs
+of that folder, to show what they are for."""
 
 import collections
 import os

@@ -6,7 +6,7 @@ and formatted again while calls.c records each call that changes or syncs the fi
 leave: of what was not synced, each sector is as before, as a call made it, or all zeros, and the length is one that the file had since the sync. Most
 of these are not tried: only images that are all of one kind from each sector on or up to it, those with one sector of another kind, and random
 mixtures; and for a call that changes a few bytes every mixture of these. Then the program opens each. It prints how often an image is no library
-(38), is damaged (37), is empty, is the old library in every byte, or has a unit otherwise, which must never happen: the status is 1 then.
+(38), is damaged (37), is empty, is the old library in every byte, or, in any other state, has a unit, which must never happen: the status is 1 then.
 
 The program is `cclib library`, which has to be built (./cclib), or CCLIB names one that is. With --device the library is on a loop device over the
 file, which requires root."""

@@ -49,7 +49,7 @@ RULES = {
 
 
 def changed(path, *pairs, more=""):
-    """A text with the first of each such words replaced, which it has, and with something more at its end."""
+    """A text in which the first of each of these words, which it has to have, is replaced, with something more at its end."""
     with open(f"{TOP}/{path}", encoding="utf-8") as file:
         text = file.read()
     for old, new in pairs:
@@ -59,7 +59,7 @@ def changed(path, *pairs, more=""):
 
 
 def edit_files(crate, many):
-    """This many must-fail edits more in a crate."""
+    """This many more must-fail edits in a crate."""
     return {f"crates/{crate}/must-fail/planted_{number}.edit": "" for number in range(many)}
 
 

@@ -19,7 +19,7 @@ def said(*words):
 
 
 def found(pattern, text):
-    """Returns what a pattern finds in a text, which has it once."""
+    """Returns what a pattern finds in a text, in which it occurs once."""
     (one,) = re.findall(pattern, text, re.M | re.S)
     return one
 

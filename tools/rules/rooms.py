@@ -5,8 +5,8 @@
                                                       reading order, with how many of their lines, and how many lines in all
 
 As rules: definitions directly in specs/ on which neither a public contract nor a type's model rests; definitions of specs/internal/ on which a
-contract or a public type's model does; contracts that rest on something of proofs/; clauses of more than 100 characters that are word for
-word in more than three contracts of the product; names in the crates' READMEs and eight documents that no longer exist.
+contract or a public type's model does; contracts that rest on something of proofs/; clauses of more than 100 characters that are word for word
+in more than three contracts of the product; names that no longer exist, in the crates' READMEs and eight documents.
 
 It reads only the text: names in clauses, followed through the `use` lines of the pages. What a Rust type is (`declared`)
 counts as code, and std's words are taken as known."""
@@ -256,7 +256,7 @@ def repeated_clauses():
 
 @functools.cache
 def read_all():
-    """Returns the repository, and of its definitions those on which public contracts rest, public types' models, and types too."""
+    """Returns the repository, and the definitions on which public contracts rest, public types' models, and types."""
     repository, used, seen, kept = Repository(), set(), set(), set()
     for crate in repository.crates:
         used |= repository.rests_on(repository.contracts(crate))

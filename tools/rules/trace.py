@@ -50,6 +50,11 @@ def is_word_of(crate, name):
     return any(re.search(rf"\b{name}\b", it.read_text()) for it in files)
 
 
+def is_module_of(crate, name):
+    """Returns whether a crate of tests has that module, at its top or in its module `tests`."""
+    return any((CRATES / crate / room / f"{name}.rt").is_file() for room in ("src", "src/tests"))
+
+
 def rows():
     """Returns the rows of the first table of docs/TRACE.md, each as its cells."""
     text = (TOP / "docs" / "TRACE.md").read_text()
@@ -63,7 +68,7 @@ def not_in_row(row):
     if not CITED.search(clause) and not clause.startswith(WITHOUT):
         yield f"a clause of '{promise}'"
     for crate, modules in NAMED.findall(tests):
-        yield from (f"{crate}: `{it}`" for it in QUOTED.findall(modules) if not (CRATES / crate / "src" / f"{it}.rt").is_file())
+        yield from (f"{crate}: `{it}`" for it in QUOTED.findall(modules) if not is_module_of(crate, it))
     yield from (it for it in re.findall(r"`((?:bench|tests/outside|tools)/[\w.]+)`", tests) if not (TOP / it).is_file())
     for crate, names in NAMED.findall(edits):
         yield from (f"{crate}: `{it}`" for it in QUOTED.findall(names) if not (CRATES / crate / "must-fail" / f"{it}.edit").is_file())

@@ -1,9 +1,9 @@
-//! The compiler's passes over a text, again and again in one process, for the scripts of bench/ that time them: `bench STEP FILE
-//! TIMES [LTL]`.
+//! Runs the compiler's passes over a text, again and again in one process, for the scripts of bench/ that time them:
+//! `bench STEP FILE TIMES [LTL]`.
 //!
-//! `compile` compiles the text of FILE TIMES times, from reading it to its image, and prints how many words its code has. Every
-//! other step is one of `passes`, and prints how many nodes the RTL of the text's first function has; LTL is the file that
-//! `judge` reads. All print `refused` if there is no result. The scripts use `cclib` itself for whatever it can show.
+//! `compile` compiles the text of FILE TIMES times, from reading it to its image, and prints how many words its code has. Each
+//! of the remaining steps is listed in `passes`, and prints how many nodes the RTL of the text's first function has; LTL is the
+//! file that `judge` reads. All print `refused` if there is no result. The scripts use `cclib` itself for whatever it can show.
 #![tactic(auto)]
 
 mod passes;
@@ -41,7 +41,7 @@ fn next_number(words: &mut Args) -> Option<u32> {
     words.next()?.as_str().parse().ok()
 }
 
-// What the last turn of the step counts, or None if there is no such step or something is refused.
+// What the last turn of the step counted, or None if there is no such step or something is refused.
 fn done(alloc: Global, step: &str, text: &[u8], ltl: &[u8], times: u32) -> Option<usize> {
     if step == "compile" {
         return compiled(alloc, text, times);

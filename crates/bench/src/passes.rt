@@ -22,7 +22,7 @@ pub enum Step {
     Check,
     /// LTL with a slot for each value.
     Spill,
-    /// The validator on the LTL of `Colour`.
+    /// The validator on the LTL of `Spill`.
     Validate,
     /// The validator on LTL that was handed in.
     Judge,
@@ -43,7 +43,7 @@ impl Step {
         }
     }
 
-    // The allocation that the step takes; None if the LTL is refused.
+    // The allocation that the step uses; None if the LTL is refused.
     fn allocation(self, alloc: Global, ltl: &[u8]) -> Option<Allocation> {
         match self {
             Step::Rtl | Step::Live | Step::Colour | Step::Check => Some(Allocation::Chosen),

@@ -15,11 +15,11 @@ use Rattle.cc_answers.specs.Text.{line, fault_line}
 abbrev pub Tells : {T : Type 0} → (old new : Option (List ℕ)) (text : List ℕ) → Result T ScriptFault → Type 0
 Tells old new text result = IfErr result (λ fault. fault ≡ WriteFault) × OnOk result (Appends old new text)
 
--- the number of a receipt
+-- the line of a receipt: `ok` and its number
 abbrev pub number_text : ℕ → List ℕ
 number_text number = line (codes "ok " ++ decimal number)
 
--- the name of a unit
+-- the line of a unit: `unit` and its name
 abbrev pub unit_text : List ℕ → List ℕ
 unit_text name = line (codes "unit " ++ name)
 
@@ -40,7 +40,7 @@ said_text Unconfirmed = line (codes " unconfirmed")
 abbrev pub audit_text : (name : List ℕ) → Audit → List ℕ
 audit_text name audit = codes "audit " ++ name ++ said_text audit
 
--- how much of its area a library takes: four numbers on a line; then the same with `ok` after it
+-- how much of its area a library uses: four numbers on a line
 abbrev pub space_line : SpaceUse → List ℕ
 space_line space =
     codes "space " ++ (decimal space.area ++ (codes " " ++ (decimal space.used ++ (codes " " ++ (decimal space.compacted ++ (codes " " ++ (decimal space.units ++ codes "\n")))))))

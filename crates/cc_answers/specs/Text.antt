@@ -77,7 +77,7 @@ name_at text at count = take count (drop at text)
 abbrev pub in_text : (text : List ℕ) (at count : ℕ) → List ℕ
 in_text text at count = codes " in " ++ name_at text at count
 
--- the function that was not compiled, and the label at which the proof failed
+-- the function that was not compiled, and the label at which the proof failed, if there is one
 abbrev pub function_text : (text : List ℕ) → PieceFault → List ℕ
 function_text text (piece.FunctionTooLarge at count) = in_text text at count
 function_text text (piece.Unvalidated at count label) = in_text text at count ++ (codes " at label " ++ decimal label)

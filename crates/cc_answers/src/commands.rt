@@ -14,7 +14,7 @@ fn before(place: usize, count: usize) -> &'static [u8] {
     }
 }
 
-// The words of a command. If they are words of `submit` and not a line of a script, they have no LEN, since `submit` itself counts
+// The words of a command. If they are words of `submit` and not a line of a script, LEN is left out, since `submit` itself counts
 // the bytes of the source.
 fn shown(command: &[u8], is_line: bool) -> &[u8] {
     if is_line {

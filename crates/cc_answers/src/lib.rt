@@ -1,4 +1,4 @@
-//! What the program writes as an answer, and how it explains a fault to a person: for a task on a text, and for a line of a
+//! What the program writes as an answer, and how it explains a fault to a person: for a task for a text, and for a line of a
 //! script.
 //!
 //! `run` runs an image and writes the result. `stands` is a fault with its position in a text, and explains it. `line` writes

@@ -110,7 +110,7 @@ fn write_place<W: Write>(place: Option<Place>, writer: &mut W) -> io::Result<()>
     }
 }
 
-// Writes the function that a fault is in, and the label.
+// Writes the function that a fault is in, and the label at which the proof failed, if there is one.
 #[tactic(auto, using(crate::proofs::Writing::written_on))]
 fn write_function<W: Write>(fault: PieceFault, text: &[u8], writer: &mut W) -> io::Result<()>
     ensures { OnOk result (Appends (W.contents writer.old) (W.contents writer.new) (function_text text.now fault)) }

@@ -92,7 +92,7 @@ fn write_audit<W: Write>(name: &[u8], audit: Audit, writer: &mut W) -> io::Resul
     writer.write_all(said_of(audit))
 }
 
-// Writes how much of its area a library takes.
+// Writes how much of its area a library uses.
 fn write_space_line<W: Write>(space: SpaceUse, writer: &mut W) -> io::Result<()>
     ensures { OnOk result (Appends (W.contents writer.old) (W.contents writer.new) (space_line space)) }
 {
@@ -105,7 +105,7 @@ fn write_space_line<W: Write>(space: SpaceUse, writer: &mut W) -> io::Result<()>
     writeln!(writer, "space {area} {used} {compacted} {units}")
 }
 
-// Writes how much of its area a library takes, and then `ok`.
+// Writes how much of its area a library uses, and then `ok`.
 #[tactic(auto, using(crate::proofs::Writing::written_on))]
 fn write_space<W: Write>(space: SpaceUse, writer: &mut W) -> io::Result<()>
     ensures { OnOk result (Appends (W.contents writer.old) (W.contents writer.new) (space_text space)) }
@@ -156,7 +156,7 @@ pub fn tell_audit<W: Write>(name: &[u8], audit: Audit, answers: &mut W) -> Resul
     flushed(write, answers)
 }
 
-/// Writes how much of its area a library takes. Fails with 54 `WriteFault` if the writer failed.
+/// Writes how much of its area a library uses. Fails with 54 `WriteFault` if the writer failed.
 #[tactic(auto, using(crate::proofs::Writing::told))]
 pub fn tell_space<W: Write>(space: SpaceUse, answers: &mut W) -> Result<(), ScriptFault>
     ensures { Tells (W.contents answers.old) (W.contents answers.new) (space_text space) result }
@@ -183,7 +183,7 @@ pub fn tell_number<W: Write>(number: u64, answers: &mut W) -> Result<(), ScriptF
     flushed(write, answers)
 }
 
-/// Writes that what was asked for is done. Fails with 54 `WriteFault` if the writer failed.
+/// Writes that the command was carried out. Fails with 54 `WriteFault` if the writer failed.
 pub fn tell_ok<W: Write>(answers: &mut W) -> Result<(), ScriptFault>
     ensures { Tells (W.contents answers.old) (W.contents answers.new) (line (codes "ok")) result }
 {

@@ -8,7 +8,7 @@ use std::io::{self, Write};
 /// The position of a fault in a text.
 #[derive(Clone, Copy, Drop)]
 pub enum Stands<'a> {
-    /// At the place where the text stops being a program.
+    /// At the place, if it has one, of the fault for which the text is not a program.
     Text(&'a TextFault),
     /// In a function.
     Function(PieceFault),

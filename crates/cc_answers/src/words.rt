@@ -31,7 +31,7 @@ pub fn words_of(number: u32) -> Option<&'static str> {
     }
 }
 
-/// The same for a task, which reads one text and gives one answer.
+/// The explanation of a fault of a task, which reads one text and gives one answer, by its number; `None` as for `words_of`.
 pub fn words_of_task(number: u32) -> Option<&'static str> {
     match number {
         53 => Some("the text could not be read"),

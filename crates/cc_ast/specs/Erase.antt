@@ -1,4 +1,4 @@
--- The syntax tree as the definitions see it, made from the code's values.
+-- The syntax tree of the definitions, made from the code's values.
 use Rattle.std.specs.Prelude.{List, [], ◌∷◌, Option, map}
 use Rattle.std.specs.Global.{Box}
 use Rattle.std.specs.Option.{option_map}

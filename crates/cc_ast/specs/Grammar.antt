@@ -67,8 +67,8 @@ step_punctuator stepping.Increment = punctuator.PlusPlus
 step_punctuator stepping.Decrement = punctuator.MinusMinus
 
 -- how tightly a binary operator binds: `||` (6.5.14), `&&` (6.5.13), `|` (6.5.12), `^` (6.5.11), `&` (6.5.10), equality (6.5.9),
--- relation (6.5.8), shift (6.5.7), sum (6.5.6), product (6.5.5). A conditional expression has level 1 (6.5.15), the operand of a
--- unary operator or of a cast level 12 (6.5.3, 6.5.4).
+-- relation (6.5.8), shift (6.5.7), sum (6.5.6), product (6.5.5). A conditional expression has level 1 (6.5.15), and the operand
+-- of a unary operator or of a cast has level 12 (6.5.3, 6.5.4).
 abbrev pub precedence : BinaryOperator → ℕ
 precedence binary.Multiply = 11
 precedence binary.Divide = 11
@@ -113,10 +113,9 @@ SpellsType ts t =
     ⊎ (((word : Lexeme) × IsKeyword (sign_word t) word × (ts ≡ word ∷ []))
     ⊎ ((word int : Lexeme) × IsKeyword (sign_word t) word × IsKeyword keyword.Int int × (ts ≡ word ∷ int ∷ [])))
 
--- The tokens of an expression in which each operator outside parentheses binds at least as tightly as the level. A binary
--- operator's left operand has the operator's own level and its right operand the next one, so binary operators group to the left.
--- A conditional expression groups to the right. The operand of a unary operator or of a cast has level 12, so it contains no
--- binary operator outside parentheses.
+-- The tokens of an expression in which each operator outside parentheses binds at least as tightly as the level. A binary operator's left
+-- operand has the operator's own level and its right operand the next one, so binary operators group to the left. A conditional expression
+-- groups to the right. The operand of a unary operator or of a cast has level 12, so it contains no binary operator outside parentheses.
 abbrev mutual
   pub SpellsExpression : ℕ → List Lexeme → Expr → Type 0
   SpellsExpression level ts (Number t n) = (x : Lexeme) × (x.kind ≡ kind.Number t n) × (ts ≡ x ∷ [])
@@ -167,8 +166,8 @@ SpellsAction ts (Step op t) =
     × ((ts ≡ sign ∷ target) ⊎ (ts ≡ target ++ sign ∷ []))
 SpellsAction ts (Evaluate e) = SpellsExpression 1 ts e
 
--- a token of a unit, with what the limits count: its number within its full expression, from 1 (0 if it belongs to none), and the
--- level of the statement or declaration that it begins (0 if it begins none)
+-- a token of a unit, with what the limits count: its number within its full expression, counted from 1 (0 if the token is in no
+-- full expression), and the level of the statement or declaration that it begins (0 if it begins none)
 pub record Measured : Type 0 where
   pub token : Lexeme
   pub count : ℕ
@@ -178,7 +177,7 @@ pub record Measured : Type 0 where
 abbrev pub outside : Lexeme → Measured
 outside x = record { token = x; count = 0; level = 0 }
 
--- the tokens of a full expression, given how many of its tokens came before
+-- the tokens of a full expression, after its first `n` tokens
 abbrev pub full_after : ℕ → List Lexeme → List Measured
 full_after n [] = []
 full_after n (x ∷ xs) = record { token = x; count = suc n; level = 0 } ∷ full_after (suc n) xs
@@ -351,7 +350,7 @@ SpellsByteArray ts (Bytes n size values) = SpellsArray ts n size values
 abbrev pub SpellsUnsignedChar : List Lexeme → Type 0
 SpellsUnsignedChar ts = (sign word : Lexeme) × IsKeyword keyword.Unsigned sign × IsKeyword keyword.Char word × (ts ≡ sign ∷ word ∷ [])
 
--- a declaration of objects: the tokens before their names, the names, a semicolon
+-- a declaration of objects: the tokens before their names, the names, and a semicolon
 abbrev pub SpellsObjects : (List Lexeme → Type 0) → (List Measured → Object → Type 0) → List Measured → List Object → Type 0
 SpellsObjects Prefix Each ts os =
     (type : List Lexeme) × (row : List Measured) × (semicolon : Lexeme) × Prefix type × SpellsRow Each row os
@@ -384,7 +383,7 @@ SpellsSignature ts f =
     × Marks punctuator.OpenParenthesis opening × Marks punctuator.CloseParenthesis closing × SpellsParameters parameters f.parameters
     × (ts ≡ map outside type ++ (outside (identifier f.name) ∷ outside opening ∷ parameters ++ outside closing ∷ []))
 
--- each parameter has its name
+-- each parameter has a name
 abbrev pub AreNamed : List Parameter → Type 0
 AreNamed [] = Unit {0}
 AreNamed (p ∷ ps) = ((n : Name) × (p.name ≡ Some n)) × AreNamed ps

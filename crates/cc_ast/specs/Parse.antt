@@ -24,7 +24,7 @@ offset_of text (Some x) = x.at
 abbrev pub place_at_token : List ℕ → List Lexeme → ℕ → Place
 place_at_token text tokens k = place_of text (offset_of text (slice_get tokens k))
 
--- the text has tokens, and number k is the first that breaks the grammar or a limit, in the named way
+-- the text has tokens, and the first that breaks the grammar or a limit is at this place, and does so as `Breaks` says
 pub record BreaksAt (Breaks : List Lexeme → ℕ → Type 0) (text : List ℕ) (p : Place) : Type 0 where
   pub fits : length text ≤ most_bytes
   pub tokens : List Lexeme
@@ -34,23 +34,22 @@ pub record BreaksAt (Breaks : List Lexeme → ℕ → Type 0) (text : List ℕ) 
   pub here : Breaks tokens number
   pub place : p ≡ place_at_token text tokens number
 
--- why a text has no tree: a text without tokens is refused as `tokens` refuses it; any other with 5 or 6, at the first token that
--- is wrong
+-- why a text has no tree: `tokens` refuses it if it has no tokens; any other text is refused with 5 or 6, at the first wrong token
 abbrev pub IsParseRefusal : List ℕ → SyntaxFault → Type 0
 IsParseRefusal text (fault.Unexpected p) = BreaksAt UnexpectedAt text p
 IsParseRefusal text (fault.TooDeep p) = BreaksAt TooDeepAt text p
 IsParseRefusal text f = IsTokenRefusal text f
 
--- what `parse` may return for a text if memory suffices: the tree that it spells, or why it has none
+-- what `parse` may return for a text if memory suffices: the tree that the text spells, or why it spells none
 abbrev pub IsParseAnswer : List ℕ → Result (List External) SyntaxFault → Type 0
 IsParseAnswer text (Ok tree) = (length text ≤ most_bytes) × SpellsText text tree
 IsParseAnswer text (Err fault.OutOfMemory) = ⊥
 IsParseAnswer text (Err f) = IsParseRefusal text f
 
--- a text has at most one such answer: two answers are the same tree, or the same fault at the same place
+-- `parse` has at most one possible answer for a text: two answers are the same tree, or the same fault at the same place
 abbrev pub ParseAnswersAreOne : Type 0
 ParseAnswersAreOne = (text : List ℕ) (a b : Result (List External) SyntaxFault) → IsParseAnswer text a → IsParseAnswer text b → a ≡ b
 
--- every text has such an answer
+-- `parse` has a possible answer for every text
 abbrev pub TextsHaveAnswers : Type 0
 TextsHaveAnswers = (text : List ℕ) → (a : Result (List External) SyntaxFault) × IsParseAnswer text a

@@ -1,4 +1,4 @@
--- The syntax tree, wherever it is in memory.
+-- The syntax tree, without its layout in memory.
 use Rattle.std.specs.Prelude.{ℕ, List, Option}
 use Rattle.cc_tokens.specs.declared.scalar.Scalar.{Scalar}
 use Rattle.cc_ast.specs.declared.ast.UnaryOperator.{UnaryOperator}
@@ -33,8 +33,7 @@ pub data Target : Type 0 where
   AtVariable : Name → Target
   AtElement : Name → Expr → Target
 
--- what an expression statement does: it assigns, increments or decrements, or evaluates an expression whose value is not used
--- (C99 6.8.3)
+-- what an expression statement does: it assigns, increments or decrements, or evaluates an expression whose value is not used (C99 6.8.3)
 pub data Action : Type 0 where
   Assign : AssignmentOperator → Target → Expr → Action
   Step : StepOperator → Target → Action
@@ -79,21 +78,20 @@ pub record Parameter : Type 0 where
   pub scalar : Scalar
   pub name : Option Name
 
--- the head of a function's declaration or definition: its result type (None for `void`), its name, its parameters
+-- the head of a function's declaration or definition: its result type (None for `void`), its name, and its parameters
 pub record Signature : Type 0 where
   pub result : Option Scalar
   pub name : Name
   pub parameters : List Parameter
 
--- one name in a declaration of objects at file scope: a single object and its initialiser, or an array with its length if given
--- and the values of its initialiser list, empty without a list (C99 6.7, 6.9.2); or the same for an array of `unsigned char`
+-- one name in a declaration of objects at file scope: a single object and its initialiser, or an array with its length, if given, and the
+-- values of its initialiser list (none without a list) (C99 6.7, 6.9.2); or such an array of `unsigned char`
 pub data Object : Type 0 where
   Single : Name → Option ConstantExpr → Object
   Array : Name → Option ConstantExpr → List ConstantExpr → Object
   Bytes : Name → Option ConstantExpr → List ConstantExpr → Object
 
--- an external declaration: a function's declaration, its definition, or a declaration of objects of one type (C99 6.9), which is
--- unsigned for arrays of `unsigned char`
+-- a function's declaration, its definition, or a declaration of objects of one type (C99 6.9); unsigned for arrays of `unsigned char`
 pub data External : Type 0 where
   Declaration : Signature → External
   Definition : Signature → Stmts → External

@@ -1,5 +1,5 @@
-// The syntax tree. It keeps the offset of each token that a fault may name, and has a node for each pair of parentheses, so that
-// a list of tokens spells at most one tree.
+// The syntax tree. It contains the offset of each token that a fault may name, and has a node for each pair of parentheses, so
+// that a list of tokens spells at most one tree.
 
 use cc_tokens::Scalar;
 
@@ -143,7 +143,7 @@ pub struct ConstantExpression {
     pub expression: Box<Expression>,
 }
 
-/// A parameter of a function. Only a declaration may omit its name (C99 6.7.5.3).
+/// A parameter of a function. Only a declaration may omit the parameter's name (C99 6.7.5.3).
 #[derive(Drop)]
 pub struct Parameter {
     pub scalar: Scalar,
@@ -163,9 +163,9 @@ pub struct Signature {
 pub enum Object {
     /// A single object, and its initialiser if it has one.
     Single(Identifier, Option<ConstantExpression>),
-    /// An array: its length if given, and the values of its initialiser list, empty without a list.
+    /// An array: its length if given, and the values of its initialiser list (none if there is no list).
     Array(Identifier, Option<ConstantExpression>, Vec<ConstantExpression>),
-    /// The same for an array of `unsigned char`.
+    /// An array of `unsigned char`: its length and its values, as for `Array`.
     Bytes(Identifier, Option<ConstantExpression>, Vec<ConstantExpression>),
 }
 

@@ -25,7 +25,7 @@ impl Drop for Unit {
 impl Unit {
     ghost use Rattle.cc_ast.specs.Source.{source};
 
-    /// Makes a unit of a text and a tree that its tokens spell.
+    /// Makes a unit from a text and a tree that the text's tokens spell.
     pub fn new(text: Vec<u8>, externals: Vec<External>) -> Self
         requires spelled { SpellsText text.items (external_trees externals.items) }
         requires fits { length text.items ≤ most_bytes }

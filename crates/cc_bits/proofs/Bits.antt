@@ -19,7 +19,7 @@ holds_here row q w r lt e = ap (λ x. bit_at x (r % 64) == 1) (ap (λ i. get_or 
 holds_elsewhere : (row : List ℕ) (q w r : ℕ) → r / 64 ≢ q → holds (set row q w) r ≡ holds row r
 holds_elsewhere row q w r d = ap (λ x. bit_at x (r % 64) == 1) (get_or-set_other row q (r / 64) w 0 d)
 
--- if the number's bit is set, the row also holds that number
+-- after a number's bit is set, the row also holds that number
 pub inserted : (row : List ℕ) (s w r : ℕ) → w ≡ get_or row (s / 64) 0 → s / 64 < length row → holds (set row (s / 64) (bit_or w (1 * 2 ^ (s % 64) % 2 ^ 64))) r ≡ (s == r || holds row r)
 inserted row s w r read lt = elim (cases_eq (r / 64) (s / 64)) [
   | inr far ↦ holds_elsewhere row (s / 64) changed r far ∙ ap (λ b. b || holds row r) (sym (ne_eqb s r (λ e. far (omega arith))))
@@ -48,7 +48,7 @@ kept row s r d = and_true (holds row r) ∙ ap (λ b. holds row r && not b) (sym
 gone : (row : List ℕ) (s r : ℕ) → s ≡ r → false ≡ (holds row r && not (s == r))
 gone row s r e = and_false (holds row r) ∙ ap (λ b. holds row r && not b) (sym (eq-eqb s r e))
 
--- if the number's bit is cleared, the row no longer holds that number
+-- after a number's bit is cleared, the row no longer holds that number
 pub removed : (row : List ℕ) (s w r : ℕ) → w ≡ get_or row (s / 64) 0 → s / 64 < length row → holds (set row (s / 64) (bit_and w (bit_not w64 (1 * 2 ^ (s % 64) % 2 ^ 64)))) r ≡ (holds row r && not (s == r))
 removed row s w r read lt = elim (cases_eq (r / 64) (s / 64)) [
   | inr far ↦ holds_elsewhere row (s / 64) changed r far ∙ kept row s r (λ e. far (omega arith))
@@ -63,7 +63,7 @@ removed row s w r read lt = elim (cases_eq (r / 64) (s / 64)) [
     changed : ℕ
     changed = bit_and w (bit_not w64 (1 * 2 ^ (s % 64) % 2 ^ 64))
 
--- the same for the number of a bit in a word
+-- after bit i of a word is cleared, the row no longer holds the number of that bit
 pub removed_at : (row : List ℕ) (at i w r : ℕ) → i < 64 → w ≡ get_or row at 0 → at < length row → holds (set row at (bit_and w (bit_not w64 (1 * 2 ^ i % 2 ^ 64)))) r ≡ (holds row r && not (64 * at + i == r))
 removed_at row at i w r small read lt =
     subst (λ q. holds (set row q (bit_and w (bit_not w64 (1 * 2 ^ i % 2 ^ 64)))) r ≡ (holds row r && not (64 * at + i == r))) place
@@ -98,7 +98,7 @@ moved_on from to old mid new there takes puts k = puts k ∙ (ap (λ b. to == k 
     here true = or_true (old to) ∙ ap (λ x. old to || x) (sym there)
     here false = refl
 
--- if the number is not in, nothing changes
+-- if the number is not in the set, nothing changes
 pub moved_none : (from to : ℕ) (old : ℕ → Bool) → old from ≡ false → (k : ℕ) → old k ≡ moved from to old k
 moved_none from to old none k = here (to == k) refl (from == k) refl
   where

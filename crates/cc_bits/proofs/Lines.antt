@@ -45,9 +45,9 @@ or_swap true false = refl
 or_swap false true = refl
 or_swap false false = refl
 
--- ---- the bits of one line are put into another line
+-- ---- the bits of one line are added to another line
 
--- the bits at the places before c have been put in
+-- the bits at the places before c have been added
 abbrev pub PutBefore : (c : ℕ) → (own old now : ℕ → Bool) → Type 0
 PutBefore c own old now = (j : ℕ) → now j ≡ (old j || (nat_lt j c && own j))
 
@@ -80,7 +80,7 @@ all_before c own old now past h j = elim (cases_lt j c) [
   | inr ge ↦ h j ∙ (ap (λ b. old j || (nat_lt j c && b)) (past j ge) ∙ (ap (λ b. old j || b) (and_false (nat_lt j c)) ∙ ap (λ b. old j || b) (sym (past j ge))))
 ]
 
--- one bit of row r is put in, and no other row changes
+-- one more bit is added to row r, and no other row changes
 pub row_put : (r c : ℕ) (bits : ℕ → Bool) (old now next : ℕ → ℕ → Bool) → bits c ≡ true → ((i j : ℕ) → next i j ≡ ((r == i && c == j) || now i j))
     → ((i : ℕ) → PutBefore c (λ j. r == i && bits j) (old i) (now i)) → (i : ℕ) → PutBefore (c + 1) (λ j. r == i && bits j) (old i) (next i)
 row_put r c bits old now next there puts h i = elim (cases_eq r i) [
@@ -94,7 +94,7 @@ pub row_skipped : (r c : ℕ) (bits : ℕ → Bool) (old now : ℕ → ℕ → B
     → ((i : ℕ) → PutBefore c (λ j. r == i && bits j) (old i) (now i)) → (i : ℕ) → PutBefore (c + 1) (λ j. r == i && bits j) (old i) (now i)
 row_skipped r c bits old now none h i = skipped c (λ j. r == i && bits j) (old i) (now i) (ap (λ b. r == i && b) none ∙ and_false (r == i)) (h i)
 
--- a whole row is put in
+-- a whole row is added
 pub rows_put : (r : ℕ) (bits : ℕ → ℕ → Bool) (now next : ℕ → ℕ → Bool) → ((i j : ℕ) → next i j ≡ (now i j || (r == i && bits r j)))
     → ((c : ℕ) → PutBefore r (λ i. bits i c) (λ _. false) (λ i. now i c)) → (c : ℕ) → PutBefore (r + 1) (λ i. bits i c) (λ _. false) (λ i. next i c)
 rows_put r bits now next puts h c = go (bits r c) refl
@@ -137,7 +137,7 @@ module _ (n from to : ℕ) (old now : ℕ → ℕ → Bool) where
         ∙ is i j same))))
   ]
 
-  -- if the lines from n on have no such bit, it has moved in all lines
+  -- if no line from n on has bit `from` set, the bit has moved in all lines
   pub all_moved : ((i : ℕ) → n ≤ i → now i from ≡ false) → MovedBefore n from to old now → (i j : ℕ) → now i j ≡ moved from to (old i) j
   all_moved past h i j = elim (cases_lt i n) [
     | inl lt ↦ h i j ∙ ap (λ b. if b then moved from to (old i) j else old i j) (below i n lt)
@@ -147,7 +147,8 @@ module _ (n from to : ℕ) (old now : ℕ → ℕ → Bool) where
       stays : (k : ℕ) → n ≤ i → now i k ≡ old i k
       stays k ge = h i k ∙ ap (λ b. if b then moved from to (old i) k else old i k) (not_below i n ge)
 
--- the same for rows of `width` words; it says where the next row's words begin, and that no row was added after the last one
+-- the bit has moved in the rows before row r, each of `width` words; the record also says where the next row's words begin,
+-- and that no row was added after the last one
 pub record MovedTo (r width from to at target : ℕ) (old now : List ℕ) : Type 0 where
   pub here : at ≡ width * r + from / 64
   pub goes : target ≡ 64 * (width * r) + to
@@ -162,7 +163,7 @@ nowhere_moved width from to at target words a t = record {
   moved = none_moved from to (bit width words);
 }
 
--- one more row; it is one of the table's rows, so the new bit lies before their end
+-- one more row, which is one of the table's rows, so the new bit lies before the end of the rows
 module _ (r width from to at target : ℕ) (old now next : List ℕ) (h : MovedTo r width from to at target old now) (f : from < 64 * width) (t : to < 64 * width) where
   -- a row that has a word is among the rows that hold the words
   inside : (many : ℕ) → length now ≤ width * many → at < length now → r < many

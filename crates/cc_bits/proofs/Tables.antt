@@ -43,7 +43,7 @@ same_bit w r c i j h k = elim (cases_eq r i) [
   ]
 ]
 
--- a bit past the width is not this one
+-- a bit past the width is not bit c of row r
 far_bit : (w r c i j : ℕ) → c < 64 * w → 64 * w ≤ j → (r == i && c == j) ≡ false
 far_bit w r c i j h k = ap (λ b. r == i && b) (ne_eqb c j (λ e. absurd (omega arith))) ∙ and_false (r == i)
 

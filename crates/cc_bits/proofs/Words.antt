@@ -55,7 +55,7 @@ module _ (w from to k word : ℕ) (old mid new : List ℕ) (h : k < w) (is : wor
     inside : (x : ℕ) → bit x c ≡ holds old (key w x c)
     inside x = ap (λ b. b && holds old (key w x c)) (below c (64 * w) lt)
 
-    -- reads the word's bit for this column
+    -- the word's bit for column c is the table's bit in row `from`
     read : k ≡ c / 64 → (bit_at word (key w r c % 64) == 1) ≡ bit from c
     read e =
         let q : w * from + k ≡ key w from c / 64 = omega (arith, e) in
@@ -86,7 +86,7 @@ module _ (w from to k word : ℕ) (old mid new : List ℕ) (h : k < w) (is : wor
     | inl lt ↦ made r c lt ∙ settled r c lt (k == c / 64) refl
   ]
 
--- a word without bits need not be moved
+-- a word without set bits need not be moved
 pub word_stays : (w from to k : ℕ) (words : List ℕ) → k < w → 0 ≡ get_or words (w * from + k) 0
     → (r c : ℕ) → (nat_lt c (64 * w) && holds words (key w r c)) ≡ (if k == c / 64 then row_moved from to (λ i j. nat_lt j (64 * w) && holds words (key w i j)) r c else (nat_lt c (64 * w) && holds words (key w r c)))
 word_stays w from to k words h none = word_moved w from to k 0 words words words h none takes puts

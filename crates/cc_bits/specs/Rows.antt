@@ -29,7 +29,7 @@ most_rows = 2 ^ 32
 abbrev pub most_words : ℕ
 most_words = 2 ^ 36
 
--- each row has this many words, and there are at most this many rows
+-- each row has `width` words, and there are at most `rows` rows; both numbers are within their limits
 pub record AreRows (width rows : ℕ) (words : List ℕ) : Type 0 where
   pub narrow : width ≤ most_width
   pub low : rows ≤ most_rows

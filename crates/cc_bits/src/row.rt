@@ -155,7 +155,7 @@ impl BitRow {
         Ok(())
     }
 
-    /// Removes all numbers of one word.
+    /// Removes all numbers that the bits of one word stand for.
     pub(crate) fn clear_word(&mut self, at: usize)
         ensures cleared { (i : ℕ) → holds self.new i ≡ (holds self.old i && not (at == i / 64)) }
         ensures long { length self.new ≡ length self.old }
@@ -251,7 +251,7 @@ fn lies_within(some: &[u64], all: &[u64]) -> bool
     true
 }
 
-/// Puts the numbers of `from` into `into`. If memory runs out, `into` stays as it was.
+/// Adds the numbers of `from` to `into`. If memory runs out, `into` stays as it was.
 fn put_words(into: &mut Words, from: &[u64]) -> Result<(), AllocError>
     ensures both { IfOk result (λ _. (k : ℕ) → holds into.new.items k ≡ (holds into.old.items k || holds from.now k)) }
     ensures few { (most : ℕ) → length into.old.items ≤ most → length from.now ≤ most → length into.new.items ≤ most }
@@ -267,7 +267,7 @@ fn put_words(into: &mut Words, from: &[u64]) -> Result<(), AllocError>
     Ok(())
 }
 
-/// Puts the numbers of `from` into `into`, which is at least as long.
+/// Adds the numbers of `from` to `into`, which is at least as long.
 fn put_all(into: &mut Words, from: &[u64])
     requires { length from.now ≤ length into.old.items }
     ensures long { length into.new.items ≡ length into.old.items }

@@ -44,7 +44,7 @@ impl BitRows {
         }
     }
 
-    /// The number of rows for which there may be words: from this row on, no bit is set.
+    /// The number of rows for which there may be words: no bit is set in the row with this number, nor in any later row.
     pub fn rows(&self) -> usize
         ensures few { result ≤ most_rows }
         ensures past { (r c : ℕ) → result ≤ r → has self.now r c ≡ false }
@@ -156,7 +156,8 @@ impl BitRows {
         Ok(())
     }
 
-    /// In each row, moves the bit of column `from` to column `to`. If memory runs out, some bits may have moved.
+    /// In each row, moves the bit of column `from` to column `to`. If memory runs out, some bits may have moved, and one may
+    /// be missing.
     pub fn move_column(&mut self, from: usize, to: usize) -> Result<(), AllocError>
         requires { to < 64 * most_width }
         ensures { IfOk result (λ _. (r c : ℕ) → has self.new r c ≡ column_moved from to (has self.old) r c) }
@@ -180,7 +181,7 @@ impl BitRows {
         Ok(())
     }
 
-    /// Moves the bits of row `from` to row `to`. If memory runs out, some bits may have moved.
+    /// Moves the bits of row `from` to row `to`. If memory runs out, some bits may have moved, and some may be missing.
     pub fn move_row(&mut self, from: usize, to: usize) -> Result<(), AllocError>
         requires from { from < most_rows }
         requires to { to < most_rows }
@@ -192,7 +193,7 @@ impl BitRows {
         Ok(())
     }
 
-    /// Does the same, but only for word `k` of the row.
+    /// Moves the bits of word `k` of row `from` to row `to`. If memory runs out, they may be missing.
     fn move_word(&mut self, from: usize, to: usize, k: usize) -> Result<(), AllocError>
         requires from { from < most_rows }
         requires to { to < most_rows }

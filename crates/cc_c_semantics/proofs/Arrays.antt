@@ -9,7 +9,7 @@ use Rattle.cc_types.specs.Types.{object_elements}
 use Rattle.cc_resolve.specs.Limits.{objects, object_name}
 use Rattle.cc_resolve.specs.Layout.{laid_from, object_number}
 
--- some object of these has this name
+-- one of these objects has this name
 abbrev is_named : List Object → List ℕ → Bool
 is_named [] x = false
 is_named (o ∷ rest) x = same_name (object_name o).text x || is_named rest x

@@ -1,4 +1,5 @@
--- The functions of a typed unit: how many words each name takes, `main` among them, and the scope in which each body begins.
+-- The functions of a typed unit: how many words a call of each name takes, also of `main`, and the scope in which each body
+-- begins.
 use Rattle.std.proofs.Common.{◌≡◌, ℕ, Bool, true, false, true≢false, ◌||◌, ◌&&◌, ◌==◌, if◌then◌else◌, List, [], ◌∷◌, ◌++◌, length, map, inr, Option, Some, None, codes, refl, sym, ap, ◌∙◌, subst}
 use Rattle.std.proofs.lemmas.List.{length-map}
 use Rattle.std.proofs.lemmas.Bool.{eqb-true}
@@ -44,7 +45,7 @@ or_none : (a : Bool) → a ≡ true → (a || false) ≡ true
 or_none true e = refl
 or_none false e = e
 
--- a defined name is that of a function of the unit, or was defined before
+-- a defined name is the name of a function of the unit, or was defined before the unit
 defined_names : (ds : List External) (f : FileScope) (x : List ℕ) → has_name (file_scope_behind_all ds f).defined x ≡ true → (has_name f.defined x || has_name (names_in ds) x) ≡ true
 defined_names [] f x e = or_none (has_name f.defined x) e
 defined_names (Declaration s ∷ rest) f x e = defined_names rest (file_scope_behind (Declaration s) f) x e
@@ -151,7 +152,7 @@ main_named (Objects t os ∷ rest) d = main_named rest d
 abbrev pub final_scope : List External → FileScope
 final_scope unit = file_scope_behind_all unit first_file_scope
 
--- how many words a name takes in a call, given what it denotes at the end of the unit
+-- in a call, a name takes as many words as what it denotes at the end of the unit requires
 takes_by : (unit : List External) → IsTyped unit → (x : List ℕ) (r : Option Scalar) (ts : List Scalar) (writes reads : Bool) → same_name x (codes "write_word") ≡ writes → same_name x (codes "read_word") ≡ reads
     → found (final_scope unit).bindings x ≡ Some (scope.Function r ts) → has_name (final_scope unit).defined x ≡ true → Takes (names_in unit) (functions unit) x (length ts)
 takes_by unit typed x r ts true reads w d e has =
@@ -183,7 +184,7 @@ no_variables y u e = none (same_name (codes "write_word") y) (same_name (codes "
     none false true e = let z : Some (scope.Function (Some Int) []) ≡ Some (scope.Variable u) = e in cc
     none false false e = let z : None ≡ Some (scope.Variable u) = e in cc
 
--- no array is declared before the unit either
+-- no array is declared before the unit
 no_arrays : (y : List ℕ) (u : Scalar) → found first_file_scope.bindings y ≡ Some (scope.Elements u) → ⊥
 no_arrays y u e = none (same_name (codes "write_word") y) (same_name (codes "read_word") y) e
   where
@@ -208,7 +209,7 @@ module _ (unit : List External) (typed : IsTyped unit) where
   abbrev TakesHere : List ℕ → ℕ → Type 0
   TakesHere = Takes (names_in unit) (functions unit)
 
-  -- what names refer to at the start of a body
+  -- at the start of a body, the names in scope refer to what `Scoped` says
   pub body_scoped : (s : Signature) (body : Stmts) (rest : List External) (f : FileScope) → file_scope_behind_all rest (file_scope_behind (Definition s body) f) ≡ final_scope unit
       → Scoped layout known TakesHere (environment_of layout s f)
   body_scoped s body rest f whole =

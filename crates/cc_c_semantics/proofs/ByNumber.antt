@@ -63,7 +63,8 @@ wrong_written : (b : Bool) (o : List ℕ) → o ≡ written_by (if b then Unfini
 wrong_written true o = refl
 wrong_written false o = refl
 
--- with more steps, what went wrong stays the same, and what runs for ever still shows the same
+-- with more steps, a call that went wrong does the same, and a call that runs for ever still shows the same
+-- output
 wrong_later : (b : Bool) (more : ℕ) (o : List ℕ) (z : Effect) → z ≡ (if b then Unfinished o else Failed o) → Later more (if b then Unfinished o else Failed o) z
 wrong_later true more o z e = subst (λ y. IsPrefixOf o (written_by y)) (sym e) (begins_refl o)
 wrong_later false more o z e = e

@@ -1,5 +1,5 @@
--- A checked program compared with its source, for each way in which the source stops; and also with more steps, because a run
--- that went wrong stays the same.
+-- A checked program compared with its source, for each way in which the source stops, and also after more steps, because a
+-- run that went wrong stays as it was.
 use Rattle.std.proofs.Common.{◌≡◌, ℕ, ◌+◌, Bool, true, false, if◌then◌else◌, List, refl, sym, ap, ◌∙◌, subst}
 use Rattle.cc_simulation.specs.Behavior as runs
 use Rattle.cc_simulation.specs.Behavior.{IsPrefixOf, EndsAlike, Shows, Follows}
@@ -18,7 +18,7 @@ same_stop Going ok = refl
 same_stop (Ended w) ok = refl
 same_stop (Wrong cause) ok = absurd ok
 
--- with more steps, what went wrong stays the same
+-- a run that went wrong does the same with more steps
 same_wrong : (s : Stop ℕ) (cause : Cause) (a z : Outcome ℕ) → s ≡ Wrong cause → GoesOn s a z → z ≡ a
 same_wrong Going cause a z e h = absurd (let f : ◌≡◌ {A = Stop ℕ} Going (Wrong cause) = e in cc)
 same_wrong (Ended w) cause a z e h = h

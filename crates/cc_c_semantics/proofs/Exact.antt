@@ -1,4 +1,4 @@
--- An answer takes exactly the steps that it spends, and with more steps a run continues.
+-- A call that answers needs no more steps than it spends, and with more steps a run continues.
 use Rattle.std.proofs.Common.{◌≡◌, ℕ, suc, ◌+◌, ◌-◌, ◌≤◌, List, [], slice_get, codes, refl, ap, ◌∙◌, arith}
 use Rattle.cc_ast.specs.Tree.{External}
 use Rattle.cc_c_semantics.specs.Meaning.{Run, Gives, Going, Wrong, functions, calls, run_optional, initial_globals, outcome_of}

@@ -35,7 +35,7 @@ length_slice_set [] i w = refl
 length_slice_set (x ∷ xs) zero w = refl
 length_slice_set (x ∷ xs) (suc i) w = ap suc (length_slice_set xs i w)
 
--- an element that is found has an index below the length, and past the length there are no elements; the last element of a list
+-- an element is found only at an index below the length, and the first element of a list is the last one in reverse
 pub get_below : {A : Type 0} (xs : List A) (i : ℕ) (x : A) → slice_get xs i ≡ Some x → i < length xs
 get_below [] i x e = absurd (let f : None ≡ Some x = e in cc)
 get_below (y ∷ ys) zero x e = omega arith

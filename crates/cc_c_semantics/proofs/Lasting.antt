@@ -1,11 +1,12 @@
 -- A part of a run with more steps, and with a larger bound on its recursion. Three facts hold for each part: it only adds to the
--- output; an answer takes exactly the steps that it spends, for any bound; and a part that had no step left continues, while one
--- that went wrong goes wrong in the same way. This file shows them for the ways in which parts are combined.
+-- output; a part that answers needs no more steps than it spends, and gives the same answer with any number more, for any bound;
+-- and a part that had no step left continues, while one that went wrong goes wrong in the same way. This file shows them for the
+-- ways in which parts are combined.
 use Rattle.std.proofs.Common.{◌≡◌, ℕ, zero, suc, ◌+◌, ◌<◌, ◌≤◌, List, [], ◌++◌, Option, Some, None, refl, sym, ap, ◌∙◌, subst, arith, append_assoc, append-nil}
 use Rattle.cc_c_semantics.specs.Meaning.{Local, State, Run, Gives, Going, Wrong, Flow, Falls, Breaks, Continues, Returns, then_do, choose, spend_of, behind_flow, behind_body, begin_body, turns, unless_decided}
 use Rattle.cc_simulation.specs.Behavior.{IsPrefixOf}
 
--- the same state with this many steps left
+-- the state `s` with `k` steps left
 abbrev pub at : State → ℕ → State
 at s k = record s { steps = k }
 
@@ -69,14 +70,14 @@ Lasts {A} {B} Within k (Gives x t) go =
 Lasts {A} {B} Within k (Going output) go = (j : ℕ) (b : B) → Within (k + j) b → IsPrefixOf output (written (go b (k + j)))
 Lasts {A} {B} Within k (Wrong cause output) go = (j : ℕ) (b : B) → Within (k + j) b → go b (k + j) ≡ Wrong cause output
 
--- a bound that is large enough for some steps is large enough for fewer
+-- a bound that is large enough for some number of steps is large enough for any smaller number
 pub record Lowers {B : Type 0} (Within : ℕ → B → Type 0) : Type 0 where
   pub lower : (j k : ℕ) (b : B) → j ≤ k → Within k b → Within j b
 
 pub lasts_gives : {A B : Type 0} (Within : ℕ → B → Type 0) (x : A) (t : State) → Lasts Within t.steps (Gives x t) (λ (b : B) j. Gives x (at t j))
 lasts_gives Within x t = (0, omega arith, λ j b w. ap (λ n. Gives x (at t n)) (let e : 0 + j ≡ j = omega arith in e))
 
--- a part that does the same under another kind of bound also gives r
+-- if a part gives r, it also gives r when it is described with another kind of bound
 pub lasts_by : {A B C : Type 0} (V : ℕ → C → Type 0) (W : ℕ → B → Type 0) (f : C → B) (k : ℕ) (r : Run A) (go : B → ℕ → Run A) (other : C → ℕ → Run A)
     → ((j : ℕ) (c : C) → V j c → W j (f c)) → ((j : ℕ) (c : C) → V j c → other c j ≡ go (f c) j) → Lasts W k r go → Lasts V k r other
 lasts_by V W f k (Gives x t) go other within same h = (h.0, h.1, λ j c v. same (h.0 + j) c v ∙ h.2 j (f c) (within (h.0 + j) c v))
@@ -109,7 +110,7 @@ lasts_behind W low k spent x t first later (Wrong cause output) e go h = λ j b 
     ∙ ap (λ r. then_do r (λ z v. later z b v)) (go (t.steps + j) b (low.lower _ _ b (omega arith) w))
     ∙ h j b (low.lower _ _ b (omega arith) w)
 
--- one part, followed by another
+-- if two parts each give a result within some steps, so does the first followed by the second
 pub lasts_then : {A C B : Type 0} (W : ℕ → B → Type 0) → Lowers W → (k : ℕ) (r : Run A) (first : B → ℕ → Run A) (rest : A → State → Run C) (later : A → B → State → Run C)
     → Lasts W k r first → ((x : A) (t : State) → t.steps ≤ k → Lasts W t.steps (rest x t) (λ b j. later x b (at t j)))
     → ((x : A) (b : B) (t : State) → IsPrefixOf t.output (written (later x b t)))
@@ -126,7 +127,7 @@ pub lasts_choose : {A B : Type 0} (W : ℕ → B → Type 0) (k w : ℕ) (holds 
 lasts_choose W k zero holds fails s later other p q = q
 lasts_choose W k (suc w) holds fails s later other p q = p
 
--- a step is spent first
+-- if a part gives a result within `i` steps, a step followed by that part gives it within `i` + 1 steps
 lasts_step : {A B : Type 0} (V W : ℕ → B → Type 0) (i : ℕ) (s : State) (r : Run A) (later : B → State → Run A) → ((j : ℕ) (b : B) → V (suc j) b → W j b)
     → Lasts W i r (λ b j. later b (at s j)) → Lasts V (suc i) r (λ b j. spend_of j (later b) (at s j))
 lasts_step V W i s (Gives x t) later within h = (
@@ -164,7 +165,7 @@ lasts_body W Breaks go s later h = lasts_gives W Falls s
 lasts_body W Continues go s later h = h
 lasts_body W (Returns w) go s later h = lasts_gives W (Returns w) s
 
--- the body of a loop, which spends a step when it begins
+-- if a loop's body and what follows it give results, so do both together, with the step that the body spends when it begins
 pub lasts_begin : {B : Type 0} (V W : ℕ → B → Type 0) → Lowers W → (s : State) (body go : State → Run Flow) (bodies later : B → State → Run Flow)
     → ((j : ℕ) (b : B) → V (suc j) b → W j b)
     → ((i : ℕ) → suc i ≡ s.steps → Lasts W i (body (at s i)) (λ b j. bodies b (at s j)))
@@ -177,7 +178,7 @@ lasts_begin V W low s body go bodies later within f g grows grows' =
     (λ flow u le. lasts_body W flow go u later (g u (omega arith))) (λ flow b u. begins_body flow (later b) u (grows' b u)))
     (λ b u. begins_then u.output (bodies b u) (λ flow v. behind_body flow (later b) v) (grows b u) (λ flow v. begins_body flow (later b) v (grows' b v)))
 
--- ---- parts for which this holds from every state
+-- ---- parts for which the facts hold in every state
 
 pub record Steady {A B : Type 0} (W : ℕ → B → Type 0) (part : B → State → Run A) : Type 0 where
   pub grows : (b : B) (s : State) → IsPrefixOf s.output (written (part b s))
@@ -186,7 +187,7 @@ pub record Steady {A B : Type 0} (W : ℕ → B → Type 0) (part : B → State 
 pub steady_gives : {A B : Type 0} (W : ℕ → B → Type 0) (x : A) → Steady W (λ (b : B) s. Gives x s)
 steady_gives W x = record { grows = λ b s. begins_refl s.output; lasts = λ b s w. lasts_gives W x s }
 
--- one part, followed by another, which may use the earlier locals
+-- if the facts hold for a part, and for another that may use the earlier locals, they hold for the first followed by the second
 pub steady_then : {A C B : Type 0} (W : ℕ → B → Type 0) → Lowers W → (first : B → State → Run A) (rest : List Local → A → B → State → Run C)
     → Steady W first → ((ls : List Local) (x : A) → Steady W (rest ls x)) → Steady W (λ b s. then_do (first b s) (λ x t. rest s.locals x b t))
 steady_then W low first rest p q = record {
@@ -236,7 +237,7 @@ Both k b = (k < b.0) × (k < b.1)
 both : Lowers Both
 both = record { lower = λ j k b le h. (let p = h.0 in omega arith, let p = h.1 in omega arith) }
 
--- the same two bounds, for one step more
+-- both bounds, for one step more
 abbrev Further : ℕ → ℕ × ℕ → Type 0
 Further k b = (suc k < b.0) × (suc k < b.1)
 

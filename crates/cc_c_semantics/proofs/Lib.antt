@@ -1,13 +1,13 @@
--- How the laws for the passes are shown. With a larger bound and more steps, a part of a run does the same (Lasting, Steps,
+-- How the laws for the passes are proved. With a larger bound and more steps, a part of a run does the same (Lasting, Steps,
 -- Exact: one predicate over each part of a run). So a call in the tree does what the call with its own steps does (Effects); and
--- since a call sees none of its caller's locals, it does just the function's effect. A walk over the tree shows that the objects
--- keep their names and sizes (Kept). Another walk shows that names are resolved, from the rules that a typed unit keeps and from
--- its file scope at the end (Resolving, which uses Scopes, Arrays, Scoped and Bodies). The meaning by number is the meaning by
--- name with the unit's names restored by position (ByNumber).
+-- since a call sees none of its caller's locals, the call has only the function's effect. A walk over the tree shows that the
+-- objects keep their names and sizes (Kept). Another walk shows that names are resolved, from the rules that a typed unit keeps
+-- and from its file scope at the end (Resolving, which uses Scopes, Arrays, Scoped and Bodies). The meaning by number is the
+-- meaning by name with the unit's names restored by position (ByNumber).
 --
 -- a part of a run with more steps and a larger bound
 pub mod Lasting
--- this holds for each part of a program
+-- the facts of Lasting hold for each part of a program
 pub mod Steps
 -- a call that answers needs no more steps than it spends, and gives the same answer with any number more
 pub mod Exact

@@ -1,5 +1,5 @@
--- In a typed unit the functions have different names, and none has a builtin's name. So a call by a function's name is a call of
--- that function, and each function has its meaning.
+-- In a typed unit the functions have different names, and no function has a builtin's name. So a call by a function's name is a
+-- call of that function, and each function has a meaning.
 use Rattle.std.proofs.Common.{◌≡◌, ℕ, zero, suc, ◌+◌, ◌<◌, true, false, ◌||◌, if◌then◌else◌, List, [], ◌∷◌, ◌++◌, length, nat_lt, Option, Some, None, slice_get, unwrap_or, option_map, codes, refl, sym, ap, ◌∙◌, subst, arith}
 use Rattle.std.proofs.lemmas.Bool.{lt-ltb}
 use Rattle.std.proofs.lemmas.Option.{slice_get-map}
@@ -98,7 +98,7 @@ numbered unit f typed h =
       no_read = same_name_symm (g.0).name (codes "read_word") ∙ reads;
     }
 
--- how a call of something that is not a builtin begins
+-- a call of a name that is not a builtin's begins as `begun` says
 pub call_begins : (fs : List Function) (opened : ℕ) (f ws : List ℕ) (n : ℕ) (s : State) → same_name f (codes "write_word") ≡ false → same_name f (codes "read_word") ≡ false
     → calls (suc n) fs opened f ws s ≡ begun false false (nat_lt opened most_open) (body_part fs opened f ws) ws n s
 call_begins fs opened f ws n s p q =

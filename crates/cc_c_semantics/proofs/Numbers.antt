@@ -26,18 +26,18 @@ names_from (Objects t os ∷ rest) f = names_from rest (file_scope_behind (Objec
 pub functions_are_numbered : FunctionsAreNumbered
 functions_are_numbered unit = names_from unit first_file_scope
 
--- there are as many names as functions, and as many numbers of parameters
+-- there are as many names, and as many numbers of parameters, as functions
 pub as_many_names : (unit : List External) → length (layout_of unit).functions ≡ length (functions unit)
 as_many_names unit = sym (ap (λ (xs : List (List ℕ)). length xs) (functions_are_numbered unit)) ∙ length-map (functions unit) (λ (g : Function). g.name)
 
 pub as_many_arities : (unit : List External) → length (arities unit) ≡ length (functions unit)
 as_many_arities unit = length-map (functions unit) (λ (g : Function). length g.parameters)
 
--- an element other than the first is at the next lower index of the rest
+-- an element other than the first is in the rest of the list, at an index lower by one
 pub get_next : {A : Type 0} (x : A) (xs : List A) (k : ℕ) → slice_get (x ∷ xs) (1 + k) ≡ slice_get xs k
 get_next x xs k = ap (λ n. slice_get (x ∷ xs) n) (let z : 1 + k ≡ suc k = omega arith in z)
 
--- the name that has a name's number is that name
+-- the name at the place that a name's number gives is that name
 named_by : (y : List ℕ) (rest : List (List ℕ)) (x : List ℕ) (b : Bool) → same_name y x ≡ b → (if b then 0 else 1 + names_before rest x) < suc (length rest)
     → (names_before rest x < length rest → unwrap_or (slice_get rest (names_before rest x)) [] ≡ x) → unwrap_or (slice_get (y ∷ rest) (if b then 0 else 1 + names_before rest x)) [] ≡ x
 named_by y rest x true e lt ih = same_text y x (sym e)
@@ -79,7 +79,7 @@ arity_of_number unit x g e =
     slice_get-map (λ (h : Function). length h.parameters) (functions unit) (names_before (layout_of unit).functions x)
     ∙ ap (option_map (λ (h : Function). length h.parameters)) (function_of_number unit x ∙ e)
 
--- a name in the list is that of a function
+-- a name in the list is the name of a function
 there_by : (f : Function) (fs : List Function) (x : List ℕ) (b : Bool) → (b || has_name (map (λ (g : Function). g.name) fs) x) ≡ true
     → (has_name (map (λ (g : Function). g.name) fs) x ≡ true → (g : Function) × (function_named fs x ≡ Some g)) → (g : Function) × ((if b then Some f else function_named fs x) ≡ Some g)
 there_by f fs x true e ih = (f, refl)

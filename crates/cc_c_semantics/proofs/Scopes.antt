@@ -22,7 +22,7 @@ use Rattle.cc_c_semantics.proofs.Named.{name_is_itself, same_name_symm}
 
 -- ---- names
 
--- a name may be replaced with one that is equal to it
+-- a name may be replaced with an equal name
 pub name_congr : (a x y : List ℕ) → same_name x y ≡ true → same_name a x ≡ same_name a y
 name_congr a x y e = same_name_symm a x ∙ nat_list_eq_equiv.congr x y a e ∙ same_name_symm y a
 
@@ -114,7 +114,7 @@ signature_takes s f e =
 
 -- ---- objects
 
--- the names of the laid-out objects
+-- one of these laid-out objects has this name
 abbrev named_in : List LaidObject → List ℕ → Bool
 named_in [] x = false
 named_in (p ∷ rest) x = same_name p.name x || named_in rest x
@@ -152,7 +152,7 @@ declared_kept : (y x : List ℕ) (e' : Entity) (f : FileScope) (o : Option Entit
 declared_kept y x e' f None e h = absurd (true≢false (sym h))
 declared_kept y x e' f (Some z) e h = ap is_some (keeps_declared y x z e' f e)
 
--- a name is declared now; what a look-up gives then, depending on whether it was there before
+-- once a name is declared, a look-up finds what it found before, or the new entity if the name was not declared before
 new_by : (f : FileScope) (y x : List ℕ) (e' : Entity) (t : Scalar) (b c : Bool) (P : Type 0) → is_declared f.bindings y ≡ b → same_name y x ≡ c
     → found (if b then f.bindings else record { name = y; entity = e' } ∷ f.bindings) x ≡ Some (Variable t)
     → (found f.bindings x ≡ Some (Variable t) → P) → (b ≡ false → c ≡ true → e' ≡ Variable t → P) → P
@@ -175,7 +175,7 @@ declared_now y e' f = now (is_declared f.bindings y) refl
     now true e = e
     now false e = ap (λ k. is_some (if k then Some e' else found f.bindings y)) (name_is_itself y)
 
--- if one more object has a declared name, all objects have
+-- if one more object has a declared name, the names of all objects are still declared
 known_more : (y : List ℕ) (e' : Entity) (f : FileScope) (ps : List LaidObject) (q : LaidObject) (x : List ℕ) (b c : Bool) → named_in ps x ≡ b → same_name y x ≡ c → (b || (c || false)) ≡ true
     → Sized f.bindings ps → is_declared (with_declared y e' f).bindings x ≡ true
 known_more y e' f ps q x true c p r e h = declared_kept y x e' f (found f.bindings x) refl (h.known x p)

@@ -127,7 +127,7 @@ module _ (call : ℕ → Calls) (steady : (f ws : List ℕ) → Steady Under (λ
       steady_then Under under (λ n s. old_value d s) (λ ls old n v. given op (binary_word op (working_type op t u) old w) v) (old_steady d)
       (λ ls old. given_steady op (binary_word op (working_type op t u) old w))
 
-  -- an assignment: the operator, then the write
+  -- the facts hold for the end of an assignment: the operator, then the write
   assigned_steady : (op : Option BinaryOperator) (t u : Scalar) (d : Destination) (w : ℕ) → Steady Under (λ (n : ℕ) s. then_do (new_value op t u d w s) (λ new v. write d new v))
   assigned_steady op t u d w =
       steady_then Under under (λ n s. new_value op t u d w s) (λ ls new n v. write d new v) (new_steady op t u d w) (λ ls new. write_steady d new)
@@ -151,11 +151,11 @@ module _ (call : ℕ → Calls) (steady : (f ws : List ℕ) → Steady Under (λ
   optional_steady None bs = steady_gives Under Falls
   optional_steady (Some a) bs = perform_steady a bs
 
-  -- what comes after a declaration of a local, whose word is 0
+  -- the facts hold for what comes after a declaration of a local, whose word is 0
   behind_local : {A : Type 0} (x : List ℕ) (part : ℕ → State → Run A) → Steady Under part → Steady Under (λ n s. part n (with_local x s))
   behind_local x part p = record { grows = λ n s. p.grows n (with_local x s); lasts = λ n s w. p.lasts n (with_local x s) w }
 
-  -- what comes after a write to a variable
+  -- the facts hold for what comes after a write to a variable
   behind_stored : (x : List ℕ) (w : ℕ) (part : ℕ → State → Run Flow) → Steady Under part → Steady Under (λ n s. part n (stored x w s))
   behind_stored x w part p =
       steady_then Under under (λ n s. Gives Falls (stored x w s)) (λ ls flow n u. part n u) (stored_steady x w) (λ ls flow. p)

@@ -46,20 +46,20 @@ output_of (Answers a left) = a.shared.output
 output_of (Unfinished output) = output
 output_of (Failed cause output) = output
 
--- the second effect is what the first one becomes with this many more steps
+-- the second effect is what the first effect becomes with `more` more steps
 abbrev pub WithMoreSteps : (more : ℕ) → Effect Answer → Effect Answer → Type 0
 WithMoreSteps more (Answers a left) z = z ≡ Answers a (left + more)
 WithMoreSteps more (Unfinished output) z = IsPrefixOf output (output_of z)
 WithMoreSteps more (Failed cause output) z = z ≡ Failed cause output
 
--- what a call or a body does, within a number of steps, to what is shared: it only adds to what is written already; with more
--- steps it continues; and an answer takes exactly the steps that it spends, however many are left
+-- a call or a body, within a number of steps, only adds to what is written already; with more steps it continues; and if it
+-- answers, it needs no more steps than it spends, and gives the same answer with any number more
 pub record EffectGoesOn (effect : ℕ → Shared → Effect Answer) : Type 0 where
   pub grows : (n : ℕ) (h : Shared) → IsPrefixOf h.output (output_of (effect n h))
   pub later : (n more : ℕ) (h : Shared) → WithMoreSteps more (effect n h) (effect (n + more) h)
   pub exact : (h : Shared) → SpendsExactly (λ n. effect n h)
 
--- this holds for each call, and for the body of each function
+-- `EffectGoesOn` holds for each call, and for the body of each function
 abbrev pub CallsGoOn : Type 0
 CallsGoOn = (unit : List External) (opened f : ℕ) (ws : List ℕ) → EffectGoesOn (λ n h. call_function unit n opened f ws h)
 

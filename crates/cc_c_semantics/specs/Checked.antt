@@ -1,6 +1,6 @@
 -- What a program shows in each mode. A plain program shows what its source does. So does a checked program until the source goes
--- wrong; then it runs for ever with the output so far, without writing more and without ending. This holds for every cause but
--- depth, after which nothing is owed.
+-- wrong; then the checked program runs for ever with the output so far, without writing more and without ending. If the cause is
+-- depth, nothing is required of it.
 use Rattle.std.specs.Prelude.{◌≡◌, ℕ, ◌+◌, Bool, true, false, if◌then◌else◌, List}
 use Rattle.cc_ast.specs.Tree.{Source}
 use Rattle.cc_c_semantics.specs.Outcome.{Stop, Going, Ended, Wrong, Outcome}
@@ -42,10 +42,9 @@ IsRight (Wrong cause) = ⊥
 
 -- how a checked program compares with its source
 pub record ChecksSource (source : Source) (input : List ℕ) : Type 0 where
-  -- as long as the source is right, the two show the same
+  -- as long as the source has not gone wrong, the checked program shows the same
   pub right : (n : ℕ) → IsRight (source_behavior source input n).stop → checked_behavior source input n ≡ source_behavior source input n
-  -- if the source goes wrong for a cause other than depth, the checked program is still running with that output, at every larger
-  -- number of steps
+  -- if the source goes wrong, but not because of depth, the checked program with any more steps still runs, with that output
   pub still : (n more : ℕ) (cause : Cause) → (source_behavior source input n).stop ≡ Wrong cause → stays Checked cause ≡ true
       → checked_behavior source input (n + more) ≡ record { stop = Going; output = (source_behavior source input n).output }
   -- the checked program goes wrong only if calls in the source are nested too deep

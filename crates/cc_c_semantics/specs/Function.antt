@@ -21,7 +21,7 @@ pub record Answer : Type 0 where
   pub word : ℕ
   pub shared : Shared
 
--- the effect of a call: an answer with the number of steps left; or no step left; or the cause for which it goes wrong
+-- the effect of a call: an answer with the number of steps left; or no step left; or the cause for which the call goes wrong
 pub data Effect (A : Type 0) : Type 0 where
   Answers : A → ℕ → Effect A
   Unfinished : List ℕ → Effect A
@@ -49,7 +49,7 @@ abbrev pub body_of_function : List External → (n opened f : ℕ) → List ℕ 
 body_of_function unit n opened f ws h =
     effect_of (run_optional (slice_get (functions unit) f) (suc n) (calls (suc n) (functions unit) (opened + 1)) ws (state_within n h))
 
--- if an answer leaves some steps over, it is the same with exactly the steps that it spent, and with any number more
+-- if a call answers, the answer is the same with exactly the steps that the call spent, and with any number more
 abbrev pub SpendsExactly : (ℕ → Effect Answer) → Type 0
 SpendsExactly effect = (n left : ℕ) (a : Answer) → effect n ≡ Answers a left → (left ≤ n) × ((more : ℕ) → effect (n - left + more) ≡ Answers a more)
 
@@ -58,21 +58,20 @@ pub record HasMeaning (unit : List External) : Type 0 where
   -- with no step left a call is unfinished
   pub none_left : (opened f : ℕ) (ws : List ℕ) (h : Shared) → f < length (functions unit) →
       call_function unit 0 opened f ws h ≡ Unfinished h.output
-  -- while the largest number of calls is open, a call spends a step and goes wrong
+  -- while `most_open` calls are open, a call spends a step and goes wrong
   pub too_deep : (n f : ℕ) (ws : List ℕ) (h : Shared) → f < length (functions unit) →
       call_function unit (suc n) most_open f ws h ≡ Failed Depth h.output
   -- otherwise a call with n + 1 steps does what the body does with n
   pub spends : (n opened f : ℕ) (ws : List ℕ) (h : Shared) → f < length (functions unit) → opened < most_open →
       call_function unit (suc n) opened f ws h ≡ body_of_function unit n opened f ws h
 
--- each function of a typed unit has its meaning
+-- each function of a typed unit has a meaning
 abbrev pub TypedUnitsHaveMeaning : Type 0
 TypedUnitsHaveMeaning = (unit : List External) → IsTyped unit → HasMeaning unit
 
 -- ---- more steps
 
--- a run continues the one that had fewer steps: if that one had ended or gone wrong, it is the same; otherwise that one's output
--- is the beginning of its output
+-- run `z` continues run `a`, which had fewer steps: if `a` ended or went wrong, `z` is the same; else its output begins with that of `a`
 abbrev pub GoesOn : Stop ℕ → Outcome ℕ → Outcome ℕ → Type 0
 GoesOn outcome.Going a z = IsPrefixOf a.output z.output
 GoesOn (outcome.Ended w) a z = z ≡ a

@@ -10,7 +10,7 @@ pub mod Function
 pub mod Resolved
 -- what holds for every call
 pub mod Calls
--- the same by number, in the form that the passes use
+-- the meaning by number, in the form that the passes use
 pub mod Numbered
 -- worked examples
 pub mod rows

@@ -37,8 +37,7 @@ pub record Global : Type 0 where
   pub width : Width
   pub words : List ℕ
 
--- the state of a run: the locals of the function that runs, newest first; the globals; the rest of the input; the output so far;
--- and how many steps are left
+-- the state of a run: the running function's locals, newest first; the globals; the input left; the output so far; the steps left
 pub record State : Type 0 where
   pub locals : List Local
   pub globals : List Global
@@ -46,15 +45,13 @@ pub record State : Type 0 where
   pub output : List ℕ
   pub steps : ℕ
 
--- what a part of a run gives: a value and the next state; or no step is left; or the run goes wrong. The last two keep the
--- output.
+-- what a part of a run gives: a value and the next state; or no step is left; or the run goes wrong. The last two keep the output.
 pub data Run (A : Type 0) : Type 0 where
   Gives : A → State → Run A
   Going : List ℕ → Run A
   Wrong : Cause → List ℕ → Run A
 
--- how a statement ends: it falls through to the next one, breaks or continues the loop around it, or returns a word from the
--- function (6.8)
+-- how a statement ends: it falls through to the next one, breaks or continues the loop around it, or returns a word from the function (6.8)
 pub data Flow : Type 0 where
   Falls : Flow
   Breaks : Flow
@@ -121,8 +118,7 @@ write_element x i w s =
 
 -- ---- expressions
 
--- why an operator has no value: a shift because of its count (6.5.7), any other operator because it is a quotient or remainder
--- (6.5.5)
+-- why an operator has no value: a shift because of its count (6.5.7), any other operator because it is a quotient or remainder (6.5.5)
 abbrev pub cause_of : BinaryOperator → Cause
 cause_of ShiftLeft = Shift
 cause_of ShiftRight = Shift
@@ -138,9 +134,8 @@ abbrev pub unless_decided : Option ℕ → (State → Run ℕ) → State → Run
 unless_decided None go s = go s
 unless_decided (Some w) go s = Gives w s
 
--- the value of an expression, given the names in scope. Operands are evaluated from left to right, the right operand of && and ||
--- only if the left one does not decide, and only one branch of a conditional (6.5.13 to 6.5.15). A conversion keeps the word
--- (6.3.1.3).
+-- the value of an expression, given the names in scope. Operands are evaluated from left to right, the right operand of && and || only if
+-- the left one does not decide, and only one branch of a conditional (6.5.13 to 6.5.15). A conversion keeps the word (6.3.1.3).
 abbrev mutual
   pub evaluate : Expr → List Binding → Calls → State → Run ℕ
   evaluate (Number t n) bs call s = Gives n s
@@ -160,7 +155,7 @@ abbrev mutual
   evaluate_all (more e rest) bs call s =
       then_do (evaluate e bs call s) (λ w t. then_do (evaluate_all rest bs call t) (λ ws u. Gives (w ∷ ws) u))
 
--- the value of an expression that may be absent; if it is, this word
+-- the value of an expression, or the word `w` if it is absent
 abbrev pub evaluate_or : ℕ → Option Expr → List Binding → Calls → State → Run ℕ
 evaluate_or w None bs call s = Gives w s
 evaluate_or w (Some e) bs call s = evaluate e bs call s
@@ -172,7 +167,7 @@ pub data Destination : Type 0 where
   ToVariable : List ℕ → Destination
   ToElement : List ℕ → ℕ → Destination
 
--- finds the destination: the index is evaluated, and not checked yet
+-- finds the destination: the index is evaluated, but not checked yet
 abbrev pub destination : Target → List Binding → Calls → State → Run Destination
 destination (AtVariable x) bs call s = Gives (ToVariable x.text) s
 destination (AtElement x e) bs call s = then_do (evaluate e bs call s) (λ i t. Gives (ToElement x.text i) t)
@@ -187,14 +182,12 @@ abbrev pub write : Destination → ℕ → State → Run Flow
 write (ToVariable x) w s = Gives Falls (stored x w s)
 write (ToElement x i) w s = write_element x i w s
 
--- the word to write, given the right side's word: for `=` it is that word, else the operator's value for the old value and that
--- word
+-- the word to write, given the right side's word: for `=` it is that word, else the operator's value for the old value and that word
 abbrev pub new_value : Option BinaryOperator → Scalar → Scalar → Destination → ℕ → State → Run ℕ
 new_value None t u d w s = Gives w s
 new_value (Some op) t u d w s = then_do (old_value d s) (λ old v. given op (binary_word op (working_type op t u) old w) v)
 
--- an action: first the index is evaluated, then the right side, then the old value is read if it is needed, then the write is
--- done; ++ and -- are += 1 and -= 1 (6.8.3)
+-- an action: evaluates the index, then the right side, reads the old value if needed, and writes; ++ and -- are += 1 and -= 1 (6.8.3)
 abbrev pub perform : Action → List Binding → Calls → State → Run Flow
 perform (Assign op target e) bs call s =
     then_do (destination target bs call s) (λ d t. then_do (evaluate e bs call t) (λ w u.
@@ -215,7 +208,7 @@ abbrev pub spend_of : {A : Type 0} → ℕ → (State → Run A) → State → R
 spend_of zero go s = Going s.output
 spend_of (suc left) go s = go (record s { steps = left })
 
--- spends a step and continues; without a step left the run stops unfinished
+-- spends a step and continues; if no step is left, the run stops unfinished
 abbrev pub spend : {A : Type 0} → (State → Run A) → State → Run A
 spend go s = spend_of s.steps go s
 
@@ -247,8 +240,7 @@ turns (suc n) test body behind s =
 abbrev pub with_local : List ℕ → State → State
 with_local x s = record s { locals = record { name = x; word = 0 } ∷ s.locals }
 
--- declares locals one after another: each is first 0, then gets the value of its initialiser, in which it is in scope (6.2.1,
--- 6.7.8)
+-- declares locals one after another: each is first 0, then gets the value of its initialiser, in which it is in scope (6.2.1, 6.7.8)
 abbrev pub declare : Scalar → List Declarator → Calls → Visible → State → Run Flow
 declare t [] call v s = Gives Falls s
 declare t (d ∷ rest) call v s =
@@ -264,7 +256,7 @@ start (Performs a) call v s = perform_optional a (in_scope v) call s
 abbrev pub left_scope : ℕ → State → State
 left_scope before s = record s { locals = drop (length s.locals - before) s.locals }
 
--- a part of a run that has a scope of its own
+-- a part of a run that has its own scope
 abbrev pub in_block : (State → Run Flow) → State → Run Flow
 in_block part s = then_do (part s) (λ flow t. Gives flow (left_scope (length s.locals) t))
 
@@ -274,9 +266,8 @@ in_block part s = then_do (part s) (λ flow t. Gives flow (left_scope (length s.
 abbrev pub return : Option Expr → List Binding → Calls → State → Run Flow
 return e bs call s = then_do (evaluate_or 0 e bs call s) (λ w t. Gives (Returns w) t)
 
--- what a statement or a list of statements does, if at most n steps are left (6.8). A block and each part of a statement are
--- scopes, and a `for` header is a scope around the loop's body (6.8.2, 6.8.4, 6.8.5). An absent condition counts as true
--- (6.8.5.3).
+-- what a statement or a list of statements does, if at most n steps are left (6.8). A block and each part of a statement are scopes, and a
+-- `for` header is a scope around the loop's body (6.8.2, 6.8.4, 6.8.5). An absent condition counts as true (6.8.5.3).
 abbrev mutual
   pub execute : Stmt → ℕ → Calls → Visible → State → Run Flow
   execute (Block all) n call v s = in_block (execute_all all n call (opened v)) s
@@ -336,19 +327,18 @@ abbrev pub function_named : List Function → List ℕ → Option Function
 function_named [] x = None
 function_named (f ∷ rest) x = if same_name f.name x then Some f else function_named rest x
 
--- the parameters with their words are put before these locals, the last parameter as the newest
+-- the parameters with their words are added before these locals, the last parameter as the newest
 abbrev pub bound : List (List ℕ) → List ℕ → List Local → List Local
 bound (x ∷ xs) (w ∷ ws) ls = bound xs ws (record { name = x; word = w } ∷ ls)
 bound [] ws ls = ls
 bound (x ∷ xs) [] ls = ls
 
--- the value of a function when its body is done: 0 if it falls off its end or returns no value
+-- the value of a function once its body has ended: 0 if the run reaches the body's end, or if no value is returned
 abbrev pub result_of : Flow → ℕ
 result_of (Returns w) = w
 result_of flow = 0
 
--- the body of a function on the words of its arguments: its parameters are its only locals at its start, and after it the
--- caller's locals are there again
+-- the body on the words of its arguments: at its start its parameters are its only locals; at its end the caller's are restored
 abbrev pub run_body : Function → ℕ → Calls → List ℕ → State → Run ℕ
 run_body f n call ws s =
     then_do (execute_all f.body n call f.visible (record s { locals = bound f.parameters ws [] }))

@@ -45,7 +45,7 @@ objects_in unit = map size_of (objects_of (initial_globals unit))
 
 -- ---- calls by number
 
--- the effect of a call that goes wrong; in a mode in which the program then runs for ever, it is a call that never finishes
+-- the effect of a call that goes wrong; if the program then runs for ever in this mode, that of a call that never finishes
 abbrev pub gone_wrong : Mode → Cause → (output : List ℕ) → Effect
 gone_wrong mode cause output = if stays mode cause then Unfinished output else Failed output
 
@@ -68,7 +68,7 @@ arity_in unit f = unwrap_or (slice_get (arities unit) f) 0
 
 -- ---- a unit's meaning
 
--- this meaning, in the passes' sense, is that of the unit in the mode
+-- this meaning, in the passes' sense, is the unit's meaning in the mode
 pub record IsMeaning (mode : Mode) (unit : List External) (meaning : Meaning) : Type 0 where
   pub functions : meaning.functions ≡ length (functions unit)
   pub arity : meaning.arity ≡ arity_in unit

@@ -21,7 +21,7 @@ arities unit = map (λ (g : Function). length g.parameters) (functions unit)
 
 -- ---- names
 
--- a name at file scope is that of an object
+-- a name at file scope is the name of an object
 abbrev pub IsObject : Environment → List ℕ → Type 0
 IsObject v x = (number : ℕ) × (object_number v.layout.objects x ≡ Some number)
 
@@ -113,8 +113,7 @@ abbrev mutual
 
 -- ---- functions
 
--- function f of a unit: its definition, the environment in which its body begins, and the fact that each name of the body is
--- resolved
+-- function f of a unit: its definition, the environment in which its body begins, and the fact that each name of the body is resolved
 pub record IsResolved (unit : List External) (f : ℕ) : Type 0 where
   pub signature : Signature
   pub body : Stmts
@@ -123,7 +122,7 @@ pub record IsResolved (unit : List External) (f : ℕ) : Type 0 where
   pub begins : slice_get (environments unit) f ≡ Some environment
   pub locals : environment.locals ≡ parameter_names signature.parameters []
   pub layout : environment.layout ≡ layout_of unit
-  -- the function as the meaning has it
+  -- the function as the meaning defines it
   pub function : slice_get (functions unit) f
       ≡ Some (record { name = signature.name.text; parameters = map (λ (p : Parameter). text_of p.name) signature.parameters; body = body; visible = environment.visible })
   pub resolved : StmtsResolved (arities unit) environment body

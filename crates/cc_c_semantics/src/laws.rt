@@ -6,14 +6,14 @@ ghost use Rattle.cc_c_semantics.specs.Function.{TypedUnitsHaveMeaning, RunsGoOn}
 ghost use Rattle.cc_c_semantics.specs.Numbered.{CallsAreNumbered, CheckedFollows, ProgramsAreNumbered, TypedUnitsHaveMeanings};
 ghost use Rattle.cc_c_semantics.specs.Resolved.{FunctionsAreResolved};
 
-/// Shows that each function of a typed unit has its meaning. A call with no step left is unfinished. A call made while 1,024
-/// calls are open spends a step and goes wrong. Any other call does what the function's body does with one step less.
+/// Shows that each function of a typed unit has a meaning. A call with no step left is unfinished. A call made while 1,024 calls
+/// are open spends a step and goes wrong. Any other call does what the function's body does with one step less.
 pub fn functions_have_meaning()
     ensures { TypedUnitsHaveMeaning }
 {}
 
-/// Shows that with more steps a run continues. If it had ended or gone wrong, it does the same again; otherwise its output is the
-/// beginning of the longer run's output.
+/// Shows that with more steps a run continues. If the shorter run ended or went wrong, the longer run does the same; otherwise
+/// the shorter run's output is the beginning of the longer run's output.
 pub fn runs_go_on()
     ensures { RunsGoOn }
 {}
@@ -24,8 +24,8 @@ pub fn calls_are_effects()
     ensures { CallsAreEffects }
 {}
 
-/// Shows that a call, or the body of a function, only adds to what is written already, and that with more steps it continues. If
-/// it gives an answer, it takes exactly the steps that it spends, however many are left.
+/// Shows that a call, or the body of a function, only adds to what is written already, and that with more steps it continues. A
+/// call or body that answers needs no more steps than it spends, and gives the same answer with any number more.
 pub fn calls_go_on()
     ensures calls { CallsGoOn }
     ensures bodies { BodiesGoOn }
@@ -58,9 +58,9 @@ pub fn functions_are_resolved()
     ensures { FunctionsAreResolved }
 {}
 
-/// Shows that a checked program shows what its source shows as long as the source is right. If the source goes wrong for a cause
-/// other than depth, the checked program runs for ever with the output so far. It goes wrong only if calls in the source are
-/// nested too deep. Whatever follows the checked program follows the source.
+/// Shows that a checked program shows what its source shows until the source goes wrong. If the source goes wrong for a cause
+/// other than depth, the checked program runs for ever with the output so far. The checked program goes wrong only if calls in
+/// the source are nested too deep. Whatever follows the checked program follows the source.
 pub fn programs_are_checked()
     ensures checked { ProgramsAreChecked }
     ensures follows { CheckedFollows }

@@ -1,8 +1,9 @@
-//! The meaning of C: what a typed unit does on an input within a number of steps. It is defined in `specs/`. Nothing in this
-//! crate runs a program: `cc_meaning` has the interpreter, whose results are exactly this meaning, and the passes follow it.
+//! The meaning of C: what a typed unit does on an input within a number of steps. The meaning is defined in `specs/`.
+//! Nothing in this crate runs a program: `cc_meaning` contains the interpreter, whose results are exactly this meaning, and
+//! the passes follow the meaning.
 //!
 //! - `cause`: why a program goes wrong.
-//! - `mode`: what a compiled program owes if its source goes wrong.
+//! - `mode`: what a compiled program must do if its source goes wrong.
 //! - `laws`: what holds for every program. These functions do nothing; the contract of each is a law of the definitions.
 #![tactic(auto)]
 

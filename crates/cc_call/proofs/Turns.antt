@@ -18,7 +18,7 @@ use Rattle.cc_call.specs.declared.lines.LinesEnd.TheVariants.{Answered, Refused,
 
 -- ---- one answer
 
--- an answer that was flushed
+-- if a line was answered and the answer was then flushed, the line is answered
 pub answered_on : (image : Image) (counted : Bool) (steps : ℕ) (bytes : List ℕ) (a b c : Option (List ℕ)) (end : LineEnd) → AnswersLine image counted steps bytes a b end → Keeps b c → AnswersLine image counted steps bytes a c end
 answered_on image counted steps bytes a b c line.Answered it kept = (it.0, it.1, (it.2.0, it.2.1, Appends-kept a b c _ it.2.2 kept))
 answered_on image counted steps bytes a b c line.BadLine it kept = (it.0, Appends-kept a b c _ it.1 kept)
@@ -26,7 +26,7 @@ answered_on image counted steps bytes a b c line.OutOfMemory it kept = Appends-k
 
 -- ---- lines so far
 
--- how the lines ended
+-- how these lines ended so far
 abbrev pub AreSoFar : List LineTurn → LinesEnd → Type 0
 AreSoFar turns Answered = (list_any is_bad turns ≡ false) × (list_any is_lack turns ≡ false)
 AreSoFar turns Refused = IsTrue (list_any is_bad turns) × (list_any is_lack turns ≡ false)
@@ -61,7 +61,8 @@ or_none : (a : Bool) → (a || false) ≡ a
 or_none true = refl
 or_none false = refl
 
--- whether p holds for some turn, with one more turn at the end
+-- if a turn is added to a list, `p` holds for one of the turns exactly if it held for one before, or holds
+-- for the added one
 any_push : (p : LineTurn → Bool) (turns : List LineTurn) (turn : LineTurn) → list_any p (turns ++ turn ∷ []) ≡ (list_any p turns || p turn)
 any_push p turns turn = list_any-append p turns (turn ∷ []) ∙ ap (λ (b : Bool). list_any p turns || b) (or_none (p turn))
 
@@ -73,7 +74,8 @@ length_push [] turn = refl
 length_push (t ∷ turns) turn = let e = length_push turns turn in omega (arith, e)
 
 module _ (image : Image) (counted : Bool) (steps : ℕ) where
-  -- one more line
+  -- if lines were answered, all with enough memory, and the next line is answered too, these lines and the
+  -- next were answered
   answers_push : (input : List ℕ) (old : Option (List ℕ)) (turns : List LineTurn) (left : List ℕ) (mid : Option (List ℕ)) (turn : LineTurn) → AnswersLines image counted steps input old turns left mid
       → list_any is_lack turns ≡ false → left ≢ [] → turn.rest ≡ drop_through 10 left → AnswersLine image counted steps (first_piece 10 left) mid turn.written turn.end
       → AnswersLines image counted steps input old (turns ++ turn ∷ []) turn.rest turn.written
@@ -89,7 +91,7 @@ module _ (image : Image) (counted : Bool) (steps : ℕ) where
         answers_push t.rest t.written turns left mid turn before.4 both.1 some rest one,
       )
 
-  -- at the beginning, no line was answered yet
+  -- at the beginning, no line has been answered
   pub called_none : (input : List ℕ) (old remaining : Option (List ℕ)) → remaining ≡ Some input → HasCalled image counted steps input old 0 Answered remaining old
   called_none input old remaining is = record { turns = []; left = input; remains = is; answers = (refl, refl); so_far = (refl, refl); number_is = refl }
 
@@ -107,7 +109,7 @@ module _ (image : Image) (counted : Bool) (steps : ℕ) where
   so_far_bad turns turn end is before = (any_push is_bad turns turn ∙ right_of (list_any is_bad turns) (is_bad turn) (ap is_bad_end is), none_push is_lack turns turn (no_lack turns end before) (ap is_lack_end is))
 
   module _ (input : List ℕ) (old : Option (List ℕ)) (number : ℕ) (end : LinesEnd) (before mid : Option (List ℕ)) (called : HasCalled image counted steps input old number end before mid) where
-    -- the line that is read from what is left
+    -- if a line is read, it is the first one of what is left
     read_of : (after : Option (List ℕ)) (bytes : List ℕ) → IsNextLine before after bytes true → (called.left ≢ []) × (bytes ≡ take_through 10 called.left) × (after ≡ Some (drop_through 10 called.left))
     read_of after bytes next = subst (λ (b : Option (List ℕ)). IsNextLine b after bytes true) called.remains next
 
@@ -140,14 +142,14 @@ module _ (image : Image) (counted : Bool) (steps : ℕ) where
       number_is = length_push called.turns _ ∙ ap (λ n. n + 1) called.number_is;
     }
 
-    -- memory was refused for the next line
+    -- if memory was refused for the next line, the lines end with `Refused`
     ends_in_lack : (after new : Option (List ℕ)) (bytes : List ℕ) → IsNextLine before after bytes true → AnswersLine image counted steps (strip_last 10 bytes) mid new line.OutOfMemory
         → CallsLines image counted steps input old new Refused
     ends_in_lack after new bytes next one =
         let turn : LineTurn = record { rest = drop_through 10 called.left; written = new; end = line.OutOfMemory } in
         (called.turns ++ turn ∷ [], drop_through 10 called.left, new, pushed after new bytes line.OutOfMemory next one, inr (inl (refl, any_push is_lack called.turns turn ∙ right_of (list_any is_lack called.turns) true refl)))
 
-    -- the lines together with the next one, depending on how they end with it
+    -- if the next line is answered, and another may follow it, then `number + 1` lines were answered
     pub called_more : (after new : Option (List ℕ)) (bytes : List ℕ) (ended : LineEnd) (next : LinesEnd) → IsNextLine before after bytes true → AnswersLine image counted steps (strip_last 10 bytes) mid new ended
         → Some next ≡ end_after end ended → HasCalled image counted steps input old (number + 1) next after new
     called_more after new bytes line.Answered next read one is = subst (λ (e : LinesEnd). HasCalled image counted steps input old (number + 1) e after new) (sym (same_Some next end is)) (called_answered after new bytes read one)
@@ -160,7 +162,7 @@ module _ (image : Image) (counted : Bool) (steps : ℕ) where
     ends_here after new bytes line.BadLine read one is = absurd (none-some Refused (sym is))
     ends_here after new bytes line.OutOfMemory read one is = ends_in_lack after new bytes read one
 
-    -- no line is left
+    -- if no line is left, the lines end as they ended so far
     ended_by : (it : LinesEnd) → it ≡ end → called.left ≡ [] → AreSoFar called.turns it → CallsLines image counted steps input old mid it
     ended_by Answered is none so_far = (called.turns, subst (λ (l : List ℕ). AnswersLines image counted steps input old called.turns l mid) none called.answers, so_far.0, so_far.1)
     ended_by Refused is none so_far = (called.turns, called.left, mid, called.answers, inl (none, refl, so_far.0))
@@ -169,17 +171,17 @@ module _ (image : Image) (counted : Bool) (steps : ℕ) where
     pub ends : (after : Option (List ℕ)) (bytes : List ℕ) → IsNextLine before after bytes false → CallsLines image counted steps input old mid end
     ends after bytes next = ended_by end refl (subst (λ (b : Option (List ℕ)). IsNextLine b after bytes false) called.remains next) called.so_far
 
-    -- the next one was not read
+    -- if the next line could not be read, the lines end with the result of reporting that
     pub ends_unread : (new : Option (List ℕ)) (told : LinesEnd) → IsToldUnread mid new told → CallsLines image counted steps input old new told
     ends_unread new Refused why = (called.turns, called.left, mid, called.answers, inr (inr (inl why)))
     ends_unread new Unwritten why = tt
     ends_unread new Answered why = absurd why
 
-    -- there were too many
+    -- if there were too many lines to count, the lines end with `Refused`
     pub ends_uncounted : number ≡ 2 ^ 64 - 1 → CallsLines image counted steps input old mid Refused
     ends_uncounted all = (called.turns, called.left, mid, called.answers, inr (inr (inr (refl, called.number_is ∙ all))))
 
--- for known bytes
+-- if `P` implies `Q`, and the bytes have `P` if they are known, then they have `Q` if they are known
 pub if_known : (known : Option (List ℕ)) (P Q : List ℕ → Type 0) → ((bytes : List ℕ) → known ≡ Some bytes → P bytes → Q bytes) → IfSome known P → IfSome known Q
 if_known None P Q step p = tt
 if_known (Some bytes) P Q step p = step bytes refl p

@@ -14,11 +14,11 @@ use Rattle.cc_runs.specs.Written.{counted_text}
 use Rattle.cc_call.specs.declared.lines.LineEnd.{LineEnd}
 use Rattle.cc_call.specs.declared.lines.LineEnd.TheVariants.{Answered, BadLine, OutOfMemory}
 
--- the disk's bytes recover to a map in which the name has this unit
+-- the disk's bytes recover to a map that has this unit under the name
 abbrev pub IsUnitOn : (seen name : List ℕ) → StoredUnit → Type 0
 IsUnitOn seen name unit = (units : Units) × Recovers seen units × IsFound units name unit
 
--- the run is what the image of that unit does on the input words within the bound, with its count exactly if that is asked for
+-- the run is what the image of the unit under the name does on the words within the bound, with a count exactly if `counted`
 abbrev pub IsCallOn : (seen name : List ℕ) (counted : Bool) (steps : ℕ) (words : List ℕ) → CountedRun → Type 0
 IsCallOn seen name counted steps words run = (unit : StoredUnit) × IsUnitOn seen name unit × IsCounted unit.image counted steps words run
 

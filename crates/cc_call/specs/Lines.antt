@@ -10,13 +10,13 @@ use Rattle.cc_call.specs.declared.lines.LineEnd.TheVariants as line
 use Rattle.cc_call.specs.declared.lines.LinesEnd.{LinesEnd}
 use Rattle.cc_call.specs.declared.lines.LinesEnd.TheVariants.{Answered, Refused, Unwritten}
 
--- a line that was answered: the input after it, all that is written then, and its answer
+-- a line that was answered: the input after it, all that is written by then, and its answer
 pub record LineTurn : Type 0 where
   pub rest : List ℕ
   pub written : Option (List ℕ)
   pub end : LineEnd
 
--- the line was no list of words
+-- the line was not a list of words
 abbrev pub is_bad_end : LineEnd → Bool
 is_bad_end line.Answered = false
 is_bad_end line.BadLine = true
@@ -34,17 +34,17 @@ is_bad turn = is_bad_end turn.end
 abbrev pub is_lack : LineTurn → Bool
 is_lack turn = is_lack_end turn.end
 
--- After what is written already, these lines of an input were answered, each without its newline, the first of the input first;
--- then `left` remains of the input, and `new` is written. After a line for which memory was refused no other line follows.
+-- After what had been written before (`old`), these lines of an input were answered, each without its newline, from its first
+-- line on; then `left` remains of the input, and `new` is written. No line follows one for which memory was refused.
 abbrev pub AnswersLines : Image → (counted : Bool) (steps : ℕ) (input : List ℕ) (old : Option (List ℕ)) → List LineTurn → (left : List ℕ) (new : Option (List ℕ)) → Type 0
 AnswersLines image counted steps input old [] left new = (left ≡ input) × (new ≡ old)
 AnswersLines image counted steps input old (turn ∷ turns) left new =
     (input ≢ []) × (turn.rest ≡ drop_through 10 input) × AnswersLine image counted steps (first_piece 10 input) old turn.written turn.end
     × (IsTrue (is_lack turn) → turns ≡ []) × AnswersLines image counted steps turn.rest turn.written turns left new
 
--- Why not every line of the input was answered with a run: all were answered, and one was no list of words; or memory was refused
--- for the last; or the next one could not be read, 53 or 40, and the line of that fault was written; or there were more of them
--- than are counted.
+-- Why not every line of the input was answered with a run: all were answered, and one was not a list of words; or memory was
+-- refused for the last; or the next one could not be read (53 or 40), and the line of that fault was written; or there were more
+-- lines than can be counted.
 abbrev pub IsRefused : List LineTurn → (left : List ℕ) (old new : Option (List ℕ)) → Type 0
 IsRefused turns left old new =
     ((left ≡ []) × (new ≡ old) × IsTrue (list_any is_bad turns))
@@ -52,8 +52,8 @@ IsRefused turns left old new =
     ⊎ ((Appends old new (refusal_text 53) ⊎ Appends old new (refusal_text 40))
     ⊎ ((new ≡ old) × (length turns ≡ 2 ^ 64 - 1))))
 
--- What became of the lines of an input: each of them was a list of words, and its run was answered; or why that is not so; or an answer could not
--- be written.
+-- What became of the lines of an input: each of them was a list of words, and its run was answered; or what `IsRefused` says; or
+-- an answer could not be written.
 abbrev pub CallsLines : Image → (counted : Bool) (steps : ℕ) (input : List ℕ) (old new : Option (List ℕ)) → LinesEnd → Type 0
 CallsLines image counted steps input old new Answered =
     (turns : List LineTurn) × AnswersLines image counted steps input old turns [] new × (list_any is_bad turns ≡ false) × (list_any is_lack turns ≡ false)

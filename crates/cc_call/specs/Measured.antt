@@ -11,17 +11,17 @@ use Rattle.cc_call.specs.declared.measuring.StoredSize.{StoredSize}
 use Rattle.cc_call.specs.declared.measuring.StoredSize.TheVariants.{Confirmed, Left}
 
 -- The measure of the unit's image, which follows on every input what the unit's program shows in the mode; and what is measured is this
--- unit and no other. Or an audit does not confirm the unit: its result is that there is no certificate exactly if there is none.
+-- unit and no other. Or an audit does not confirm the unit; the audit's result is "no certificate" exactly if the unit has none.
 abbrev pub IsSizeOf : Mode → StoredUnit → StoredSize → Type 0
 IsSizeOf mode unit (Confirmed it) = Measures mode unit.source it × (it.sized.made.unit ≡ unit)
 IsSizeOf mode unit (Left audit.NoCertificate) = unit.certificate ≡ None
 IsSizeOf mode unit (Left audit.Unconfirmed) = (certificate : List ℕ) × (unit.certificate ≡ Some certificate)
 IsSizeOf mode unit (Left audit.Confirmed) = ⊥
 
--- the same for the unit with the name in the map to which the disk's bytes recover
+-- the unit under the name in the map to which the disk's bytes recover has this size
 abbrev pub IsSizeOn : Mode → (seen name : List ℕ) → StoredSize → Type 0
 IsSizeOn mode seen name size = (unit : StoredUnit) × IsUnitOn seen name unit × IsSizeOf mode unit size
 
--- why nothing is measured: there is no such unit on the disk, or memory ran out
+-- why nothing is measured: the library is not opened, it has no such unit, or memory ran out
 abbrev pub IsUnmeasured : (honest : Bool) (seen : List ℕ) (before after : ℕ) (name : List ℕ) → PartFault → Type 0
 IsUnmeasured honest seen before after name fault = IsNoPartOn honest seen before after name fault

@@ -44,7 +44,7 @@ pub fn unit_on<D: Disk + Drop, E: Write>(
     name: &[u8],
     explanations: &mut E,
 ) -> (Result<Arc<StoredUnit>, PartFault>, D)
-    // On an honest disk this is the unit of the map to which the disk recovers.
+    // On an honest disk this is the unit under the name in the map to which the disk recovers.
     ensures found { IfOk result.0 (λ unit. IsTrue D.honest → IsUnitOn (D.seen disk) name.now (arc_value unit)) }
     ensures refused { IfErr result.0 (λ fault. IsNoPartOn D.honest (D.seen disk) (D.failures disk) (D.failures result.1) name.now fault) }
     ensures reads { IsTrue D.honest → OnlyReads D.seen D.may_leave D.moment D.left_since disk result.1 }
@@ -74,7 +74,7 @@ pub fn call<D: Disk + Drop, E: Write>(
     is_counted: bool,
     explanations: &mut E,
 ) -> (Result<CountedRun, PartFault>, D)
-    // On an honest disk the answer is that of the unit of the map to which the disk recovers.
+    // On an honest disk the unit is the one in the map to which the disk recovers.
     ensures run { IfOk result.0 (λ run. IsTrue D.honest → IsCallOn (D.seen disk) name.now is_counted steps words.now run) }
     ensures refused { IfErr result.0 (λ fault. IsNoPartOn D.honest (D.seen disk) (D.failures disk) (D.failures result.1) name.now fault) }
     ensures reads { IsTrue D.honest → OnlyReads D.seen D.may_leave D.moment D.left_since disk result.1 }

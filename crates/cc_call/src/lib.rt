@@ -2,7 +2,7 @@
 //!
 //! `calling` takes the unit out of a library and runs its image on input words, `lines` runs it on the words of one line after
 //! another, `measuring` says how much memory its image takes. The crate exports `unit_in`, `unit_on`, `call`, `answer_line`,
-//! `call_lines`, `size_on`, and the definitions that their contracts cite (`specs/`).
+//! `call_lines`, `size_on`, their types, and the definitions that their contracts cite (`specs/`).
 #![tactic(auto)]
 
 mod calling;

@@ -18,7 +18,7 @@ use std::io::{self, BufRead, ErrorKind, Write};
 pub enum LineEnd {
     /// With the run on its words.
     Answered,
-    /// 50: it is not a list of words.
+    /// 50: the line is not a list of words.
     BadLine,
     /// 40: memory was refused.
     OutOfMemory,
@@ -117,7 +117,7 @@ fn tell_line<W: Write>(
     Ok(end)
 }
 
-// Says why the next line could not be read.
+// Writes why the next line could not be read.
 fn tell_unread<W: Write>(error: io::Error, writer: &mut W) -> LinesEnd
     ensures { IsToldUnread (W.contents writer.old) (W.contents writer.new) result }
 {
@@ -145,7 +145,7 @@ fn next_line<R: BufRead>(reader: &mut R, line: &mut Vec<u8>) -> io::Result<bool>
     Ok(0 < count)
 }
 
-// How the lines end when one more is added; none if no other may follow it.
+// How the lines end when one more is added; `None` if no other line may follow it.
 fn end_after(end: LinesEnd, line: LineEnd) -> Option<LinesEnd>
     ensures { result ≡ end_after end line }
 {
@@ -156,8 +156,8 @@ fn end_after(end: LinesEnd, line: LineEnd) -> Option<LinesEnd>
     }
 }
 
-/// Runs an image on the words of each line of a reader, as `answer_line` does, and flushes each answer before it reads the next line. A
-/// line that is not a list of words does not end this; lack of memory does.
+/// Runs an image on the words of each line of a reader, as `answer_line` does, and flushes each answer before it reads the next line. Goes
+/// on after a line that is not a list of words; ends if memory is refused.
 pub fn call_lines<R: BufRead, W: Write>(
     alloc: Global,
     image: &Image,
@@ -188,6 +188,6 @@ pub fn call_lines<R: BufRead, W: Write>(
             None => return LinesEnd::Refused,
         }
     }
-    // There were more lines than a number counts.
+    // There were more lines than a `u64` can count.
     LinesEnd::Refused
 }

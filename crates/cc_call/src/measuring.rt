@@ -40,7 +40,7 @@ fn size_of_unit(alloc: Global, mode: Mode, unit: &StoredUnit) -> Result<StoredSi
     }
 }
 
-/// How much memory the image of the unit with this name takes, rebuilt from its certificate in a mode; or the result of the audit, if that
+/// How much memory the image of the unit with this name takes, rebuilt from its certificate in a mode; or the audit's result, if the audit
 /// does not confirm the unit. Nothing is written to the disk.
 ///
 /// Refusals: those of `unit_on`; 40 if memory was refused.
@@ -51,7 +51,7 @@ pub fn size_on<D: Disk + Drop, E: Write>(
     mode: Mode,
     explanations: &mut E,
 ) -> (Result<StoredSize, PartFault>, D)
-    // On an honest disk the answer is about the unit of the map to which the disk recovers.
+    // On an honest disk the unit is the one in the map to which the disk recovers.
     ensures size { IfOk result.0 (λ size. IsTrue D.honest → IsSizeOn mode (D.seen disk) name.now size) }
     ensures refused { IfErr result.0 (IsUnmeasured D.honest (D.seen disk) (D.failures disk) (D.failures result.1) name.now) }
     ensures reads { IsTrue D.honest → OnlyReads D.seen D.may_leave D.moment D.left_since disk result.1 }

@@ -58,7 +58,7 @@ other_names (x ∷ xs) = xs
 abbrev unnamed : NamedSize → world.Size
 unnamed z = record { width = z.width; elements = z.elements }
 
--- the objects of a world, with the names of the layout
+-- objects that are given the names of the layout have its sizes, and are unchanged once the names are removed
 sized_named : (ps : List LaidObject) (xs : List (List ℕ)) (os : List world.Object) → xs ≡ map (λ (p : LaidObject). p.name) ps → map world.size_of os ≡ map unnamed (laid_sizes ps)
     → (sizes (named xs os) ≡ laid_sizes ps) × (objects_of (named xs os) ≡ os)
 sized_named [] [] [] e f = (refl, refl)
@@ -84,11 +84,11 @@ sized_named (p ∷ ps) (x ∷ xs) (o ∷ os) e f =
 
 -- ---- the end of a run
 
--- some cut shows what is required
+-- some cut of the run keeps up with the source
 abbrev pub Kept : Calling → ℕ → Effect → Config → Type 0
 Kept effect n source c = (most : ℕ) × (most_steps : ℕ) × Keeping cminor_move cminor_output effect.does 1 n source c most most_steps
 
--- otherwise, in a mode in which a program that goes wrong runs for ever, the run breaks
+-- the mode is one in which a program that goes wrong runs for ever, and the run breaks
 abbrev Broken : Mode → (ℕ → Question → Effect) → Effect → Config → Type 0
 Broken Plain does source c = ⊥
 Broken Checked does source c = BreaksAt cminor_move cminor_output does source c
@@ -101,7 +101,7 @@ IsNotFailed (world.Gives a left) = Unit {0}
 IsNotFailed (world.Unfinished o) = Unit {0}
 IsNotFailed (world.Failed o) = ⊥
 
--- if the source goes wrong the run does too
+-- the run keeps up or breaks, and if the source goes wrong, so does the run
 abbrev Owed : Calling → ℕ → Effect → Config → Type 0
 Owed effect n source c = KeptOrBroken effect n source c × ((o : List ℕ) → source ≡ world.Failed o → Lost effect c o)
 
@@ -132,7 +132,7 @@ gave_back effect g c d n w t p q =
 going_kept : (effect : Calling) (c : Config) (n : ℕ) (o : List ℕ) → Cut effect c n o → Kept effect n (world.Unfinished o) c
 going_kept effect c n o h = (h.k, h.j, record { moves = h.k; steps = h.j; few = omega arith; few_steps = omega arith; keeps = (h.same, (let e = h.enough in omega arith)) })
 
--- if the source goes wrong, the run does what it owes
+-- if the source goes wrong, the run satisfies `Owed`
 wrong_kept : (effect : Calling) (cause : Cause) (c : Config) (n : ℕ) (o : List ℕ) → Stuck effect (stays effect.mode cause) c n o → Owed effect n (gone_wrong effect.mode cause o) c
 wrong_kept effect cause c n o h = by effect.mode (stays effect.mode cause) refl h
   where
@@ -206,7 +206,7 @@ module _ (effects : CallsAreEffects) (keep : CallsKeepObjects) (functions_are : 
         };
   }
 
-  -- in every mode, the code of a resolved function's body does what is required
+  -- in every mode, the code of a resolved function's body satisfies `Owed`
   lowered_kept : (mode : Mode) (unit : List External) → IsTyped unit → (f : ℕ) (r : IsResolved unit f) (m : Meaning) → IsMeaning mode unit m → (opened : ℕ) (ws : List ℕ) (h : World) → IsCall m f ws h → (n : ℕ)
       → Owed (calling mode m (suc opened)) n (m.body n opened f ws h) (config (body_code (layout_of unit) r.environment r.body) Ends (first_variables ws) h)
   lowered_kept mode unit typed f r m is opened ws h call n =

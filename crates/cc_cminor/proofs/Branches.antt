@@ -1,5 +1,5 @@
 -- What a branch tests decides in the same way as the value of its expression: one is 0 exactly if the other is, or, if the
--- branches are exchanged, exactly if it is not.
+-- branches are exchanged, exactly if the other is not.
 use Rattle.std.proofs.Common.{◌≡◌, ◌⊎◌, inl, inr, ℕ, zero, suc, ◌-◌, ◌==◌, not, Bool, true, false, if◌then◌else◌, Option, Some, None, bit_xor, refl, sym, ap, ◌∙◌, subst, arith}
 use Rattle.std.proofs.Math.Bool.{not-not}
 use Rattle.std.proofs.lemmas.Bool.{ne_eqb}
@@ -21,7 +21,7 @@ abbrev flipped : (reversed holds : Bool) → Bool
 flipped true b = not b
 flipped false b = b
 
--- a branch tests this in place of an expression with value w
+-- a branch may test e in place of an expression with value w
 record Tests (e : Expression) (reversed : Bool) (l : ℕ → ℕ) (h : World) (w : ℕ) : Type 0 where
   word : ℕ
   is : value e l h ≡ Some word
@@ -61,7 +61,8 @@ nothing_is (Unary op a) l h b e is = absurd (cc)
 nothing_is (Binary op a c) l h b e is = absurd (cc)
 nothing_is (Load width o a) l h b e is = absurd (cc)
 
--- `==` and `!=`: the left operand if the right one is 0, else a word that is 0 exactly if they are equal
+-- for `==` and `!=` a branch may test the left operand if the right one is 0, else a word that is 0 exactly if the
+-- operands are equal
 equality_tests : (x y : Expression) (r : Bool) (l : ℕ → ℕ) (h : World) (a b w : ℕ) → value x l h ≡ Some a → value y l h ≡ Some b → not (a == b) ≡ flipped r (is_true w)
     → Tests (if is_nothing y then x else Binary two.Xor x y) r l h w
 equality_tests x y r l h a b w p q e = by (is_nothing y) refl

@@ -1,4 +1,4 @@
--- At the end of a scope its locals are removed, and everything is as before it.
+-- At the end of a scope its locals are removed, and everything is as it was before the scope.
 use Rattle.std.proofs.Common.{◌≡◌, ℕ, zero, suc, ◌+◌, ◌-◌, ◌≤◌, ◌<◌, List, [], ◌∷◌, ◌++◌, length, take, drop, refl, sym, ap, ◌∙◌, subst, arith}
 use Rattle.cc_tokens.specs.declared.scalar.Scalar.{Scalar}
 use Rattle.cc_ast.specs.Tree as tree
@@ -24,7 +24,7 @@ drop-one zero l = refl
 drop-one (suc n) [] = refl
 drop-one (suc n) (x ∷ l) = drop-one n l
 
--- one more local is removed
+-- if more than `locals` locals are left, `Closing` still holds after one more is removed
 pub closing-next : (locals number : ℕ) (v w u : Environment) → Closing locals v w → number ≡ length w.locals → locals < number
     → u ≡ record w { visible = record w.visible { inner = drop 1 w.visible.inner }; locals = drop 1 w.locals } → Closing locals v u
 closing-next locals number v w u h n lt e =
@@ -104,7 +104,7 @@ closed-again v w h =
     at : List Binding → List Binding → List (List ℕ) → Layout → Environment
     at a b l g = record { visible = record { inner = a; outer = b }; locals = l; layout = g }
 
--- the same for the numbers noted before the scope
+-- closing the scope by the numbers noted before it restores what was before it
 pub closed-back : (v w u : Environment) (around locals : ℕ) → Within (inner v) w → around ≡ length v.visible.inner → locals ≡ length v.locals
     → u ≡ record w { visible = closed around w.visible; locals = drop (length w.locals - locals) w.locals } → u ≡ v
 closed-back v w u around locals h a b e =

@@ -1,4 +1,4 @@
--- A sequence uses the same variables as its list.
+-- A sequence uses the same variables as the list of its statements.
 use Rattle.std.proofs.Common.{◌≡◌, ℕ, suc, ◌+◌, ◌<◌, List, [], ◌∷◌, drop, length, get_or, drop-cons, refl, sym, ap, ◌∙◌, subst, arith}
 use Rattle.cc_cminor.specs.Cminor as cminor
 use Rattle.cc_cminor.specs.Code.{expression_of, expressions_of, statement_of, in_sequence}

@@ -1,4 +1,4 @@
--- The lowering gives at most 12 statements and expressions for each token.
+-- The lowering makes at most 12 statements and expressions for each token.
 use Rattle.std.proofs.Common.{◌≡◌, ℕ, zero, suc, ◌+◌, ◌*◌, ◌≤◌, ◌&&◌, Bool, true, false, if◌then◌else◌, List, [], ◌∷◌, ◌++◌, Option, Some, None, refl, arith}
 use Rattle.cc_tokens.specs.declared.scalar.Scalar.{Scalar}
 use Rattle.cc_tokens.specs.declared.scalar.Scalar.TheVariants.{Int}
@@ -135,7 +135,7 @@ last_size [] = omega arith
 last_size (e ∷ []) = omega arith
 last_size (e ∷ f ∷ rest) = let a = last_size (f ∷ rest) in omega arith
 
--- the statements of a list, each with what joins it to the next one
+-- the size of the statements of a list, each with what joins it to the next one
 abbrev total : List Statement → ℕ
 total [] = 0
 total (s ∷ rest) = suc (statement_size s) + total rest
@@ -225,7 +225,7 @@ module _ (g : Layout) where
   combined_size None t u old e = omega arith
   combined_size (Some op) t u old e = let a = binary_size op (working_type op t u) old e in omega arith
 
-  -- the size of what sets a target, if `code` takes a value within r + m
+  -- the size of the code that sets a target, if `code` uses a value within r + m
   assigned_size : (target : Target) (op : Option BinaryOperator) (u : Scalar) (v : Environment) (code : ℕ → (Expression → Statement) → Statement) (r : ℕ) → ((k m : ℕ) (f : Expression → Statement) → ((x : Expression) → statement_size (f x) ≤ expression_size x + m) → statement_size (code k f) ≤ r + m)
       → statement_size (assigned g v target (λ t old new. combined op t u old new) code) ≤ 12 * target_tokens target + r
   assigned_size (AtVariable x) op u v code r h =
@@ -307,6 +307,6 @@ module _ (g : Layout) where
     all_lowered_size end b v = omega arith
     all_lowered_size (next first rest) b v = let x = lowered_size first b v in let y = all_lowered_size rest b (behind first v) in omega arith
 
-  -- the body's braces are two tokens
+  -- a body's code has at most 12 statements and expressions for each token, counting its two braces
   pub body_size : (v : Environment) (body : Stmts) → statement_size (body_code g v body) ≤ 12 * (2 + statements_tokens body)
   body_size v body = let a = all_lowered_size body false v in let c = sequence_size (all_lowered g false v body) in omega arith

@@ -1,5 +1,5 @@
--- The numbers in lowered code. Variables are numbered by depth, so a local's number is below how many are in scope. Values that
--- wait are above them; there are fewer of these than the full expression has tokens.
+-- The numbers in lowered code. Variables are numbered by depth, so a local's number is below the number of locals in scope.
+-- Values that wait are above them; there are fewer of these than the full expression has tokens.
 use Rattle.std.proofs.Common.{◌≡◌, ℕ, zero, suc, ◌+◌, ◌<◌, ◌≤◌, ◌&&◌, Bool, true, false, if◌then◌else◌, List, [], ◌∷◌, ◌++◌, length, map, Option, Some, None, option_map, unwrap_or, slice_get, refl, sym, ap, subst, ◌∙◌, arith}
 use Rattle.std.proofs.lemmas.List.{length-append, length-map}
 use Rattle.std.proofs.lemmas.Option.{slice_get_within}
@@ -117,7 +117,7 @@ append_fits : (ss ts : List Statement) → AllFit ss → AllFit ts → AllFit (s
 append_fits [] ts h i = i
 append_fits (s ∷ ss) ts h i = (h.0, append_fits ss ts h.1 i)
 
--- a statement that takes a value fits, whatever the value is
+-- a statement that uses a value fits, whatever the value is
 abbrev Takes : (Expression → Statement) → Type 0
 Takes f = (x : Expression) → ExpressionBelow 1024 x → StatementBelow 1024 (f x)
 

@@ -1,5 +1,5 @@
 -- What is known about the names of a body, over one layout. It is what the meaning's laws say about a typed unit's functions,
--- without the numbers of arguments.
+-- except for the numbers of arguments.
 use Rattle.std.proofs.Common.{◌≡◌, ℕ, ◌<◌, List, [], ◌∷◌, length, Option, Some, None, slice_get, refl, sym, ◌∙◌, subst, arith}
 use Rattle.std.proofs.lemmas.Option.{slice_get_within}
 use Rattle.cc_tokens.specs.declared.scalar.Scalar.{Scalar}

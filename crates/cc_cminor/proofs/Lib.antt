@@ -1,10 +1,10 @@
 -- How Cminor is shown to keep up with C. A function's locals are numbered by depth (how many are older), and values that wait are
--- above them. The state of C and the variables of Cminor fit together if each local's word is in its variable and the objects are
--- the same by number (Fits of Variables). Each part of C becomes a path of Cminor's moves that ends with the part's value (Paths,
--- PutExpressions, LoweredStatements). A path makes at least one move for each of the source's steps, so the rate is 1, and a loop
--- that does nothing is still a loop that moves. A call must ask the same question, with its arguments in order and in an equal
--- world, and after every answer the two must fit together again, with the result in its variable (CallFacts of Bodies, by the
--- laws of the meaning).
+-- in variables above the locals. The state of C and the variables of Cminor fit together if each local's word is in its variable
+-- and the objects are the same by number (Fits of Variables). Each part of C becomes a path of Cminor's moves that ends with the
+-- part's value (Paths, PutExpressions, LoweredStatements). A path makes at least one move for each of the source's steps, so the
+-- rate is 1, and a loop that does nothing is still a loop that moves. A call must ask the same question, with its arguments in
+-- order and in an equal world, and after every answer the two must fit together again, with the result in its variable (CallFacts
+-- of Bodies, by the laws of the meaning).
 --
 -- The code writes exactly what the definition of the lowering says, in one walk (specs/internal/Lowering; Taking, Trees,
 -- Closing). Pairs applies the laws of the meaning to its unit.
@@ -14,8 +14,8 @@
 -- it (Tokens).
 --
 -- Numbers below their limits: a unit's text has at most 512 tokens in a full expression (Longest); by the limits a function has
--- at most 8 parameters and 256 locals, and a unit 64 functions and 65,536 words of objects (Limits). A value that waits is above
--- the locals in scope, with fewer above them than its expression has tokens (Fits).
+-- at most 8 parameters and 256 locals, and a unit 64 functions and 65,536 words of objects (Limits). A value that waits is in a
+-- variable above the locals in scope; fewer variables above them are used than the full expression has tokens (Fits).
 -- a break is a cut at which the run goes wrong
 pub mod Breaks
 -- paths of a run, and what the code must do for a part of the source
@@ -24,7 +24,7 @@ pub mod Paths
 pub mod Known
 -- variables and objects by number; plain expressions
 pub mod Variables
--- what a branch tests decides like its expression
+-- what a branch tests decides in the same way as its expression
 pub mod Branches
 -- code that puts the value of an expression into a variable
 pub mod PutExpressions
@@ -58,7 +58,7 @@ pub mod Operations
 pub mod Pairs
 -- the Cminor that the code's functions build
 pub mod Codes
--- a sequence uses the same variables as its list
+-- a sequence uses the same variables as the list of its statements
 pub mod Counting
 -- the end of a scope
 pub mod Closing

@@ -47,7 +47,7 @@ kept_within (Definition g b ∷ rest) zero s body h e =
     sym (ap external_excesses is) ∙ left_empty (external_excesses (Definition g b)) (externals_excesses rest) h
 kept_within (Definition g b ∷ rest) (suc f) s body h e = kept_within rest f s body (right_empty (external_excesses (Definition g b)) (externals_excesses rest) h) e
 
--- at most 8 parameters and 256 locals
+-- a defined function has at most 8 parameters and 256 locals
 pub few_names : (unit : List External) → IsWithinLimits unit → (f : ℕ) (s : Signature) (body : Stmts) → slice_get (definitions unit) f ≡ Some (Definition s body) → (length s.parameters ≤ 8) × (length (locals body) ≤ 256)
 few_names unit h f s body e =
     let one = kept_within unit f s body (left_empty (externals_excesses unit) (past 64 (function_names unit) ++ word_excesses 0 (objects unit)) h) e in

@@ -1,4 +1,5 @@
--- Each call in the code of a resolved body is of a function of the unit, with as many arguments as that has parameters.
+-- Each call in the code of a resolved body is of a function of the unit, with as many arguments as the function has
+-- parameters.
 use Rattle.std.proofs.Common.{◌≡◌, ℕ, zero, suc, ◌&&◌, Bool, true, false, if◌then◌else◌, List, [], ◌∷◌, ◌++◌, length, Option, Some, None, refl, sym, ap, subst, ◌∙◌, arith}
 use Rattle.cc_tokens.specs.declared.scalar.Scalar.{Scalar}
 use Rattle.cc_tokens.specs.declared.scalar.Scalar.TheVariants.{Int}
@@ -32,7 +33,7 @@ many_locals k zero = refl
 many_locals k (suc n) = ap suc (many_locals (suc k) n)
 
 module _ (unit : List External) (g : Layout) where
-  -- the same in each statement of a list
+  -- each call in each statement of a list is right
   abbrev AllAreCalls : List Statement → Type 0
   AllAreCalls [] = Unit {0}
   AllAreCalls (s ∷ rest) = AreCalls unit s × AllAreCalls rest

@@ -73,7 +73,7 @@ dropped (x ∷ extra) ns (y ∷ rest) m e h =
     subst (λ k. (names_of (drop k (y ∷ rest)) ≡ ns) × Holds (drop k (y ∷ rest)) m) (sym k) (dropped extra ns rest m tail h.1)
 
 module _ (effect : Calling) (g : Layout) where
-  -- the same, with newer locals above these
+  -- this code is next, and there may be newer locals above those of `ns`
   pub record StopsBehind (code : Statement) (κ : Continuation) (ns : List (List ℕ)) (s : State) (d : Config) : Type 0 where
     pub extra : List (List ℕ)
     pub stops : Stops effect g code κ (extra ++ ns) s d
@@ -90,7 +90,8 @@ module _ (effect : Calling) (g : Layout) where
   Leaves true i leave s d = leave i s d
   Leaves false i leave s d = GivesBack 0 s d
 
-  -- what holds then, depending on how a statement ends; a loop's blocks make `break` Exit 1 and `continue` Exit 0
+  -- what holds when a statement ends, depending on how it ends; a loop's blocks make `break` Exit 1 and
+  -- `continue` Exit 0
   abbrev pub Flowing : Bool → (State → Config → Type 0) → (ℕ → State → Config → Type 0) → Flow → State → Config → Type 0
   Flowing b after leave Falls s d = after s d
   Flowing b after leave Breaks s d = Leaves b 1 leave s d
@@ -119,7 +120,7 @@ module _ (effect : Calling) (g : Layout) where
   same_behind : (code : Statement) (κ : Continuation) (ns : List (List ℕ)) (s : State) (d : Config) → Stops effect g code κ ns s d → StopsBehind code κ ns s d
   same_behind code κ ns s d q = record { extra = []; stops = q }
 
-  -- `StopsBehind` holds if `extra` are newer locals above these
+  -- `StopsBehind` holds if `extra` are newer locals above those of `ns`
   more_behind : (code : Statement) (κ : Continuation) (extra after ns : List (List ℕ)) (s : State) (d : Config) → after ≡ extra ++ ns → Stops effect g code κ after s d → StopsBehind code κ ns s d
   more_behind code κ extra after ns s d e q = record { extra = extra; stops = subst (λ xs. Stops effect g code κ xs s d) e q }
 

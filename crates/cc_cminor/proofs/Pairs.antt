@@ -33,7 +33,7 @@ use Rattle.cc_cminor.proofs.Operations.{body_ops}
 use Rattle.cc_cminor.proofs.Bodies.{lowered_keeps_up, lowered_fails_alike, lowered_goes_wrong}
 
 module _ (functions_are : FunctionsAreNumbered) (resolved : FunctionsAreResolved) where
-  -- a defined function has its number in the meaning
+  -- the number of a defined function is below the number of functions in the unit
   numbered : (unit : List External) (f n : ℕ) → n ≡ length (layout_of unit).functions → f < n → f < length (functions unit)
   numbered unit f n e below =
       let many : length (functions unit) ≡ length (layout_of unit).functions =

@@ -23,7 +23,7 @@ abbrev pub after_list : List Statement → Continuation → Continuation
 after_list [] κ = κ
 after_list (a ∷ rest) κ = Then (in_sequence (a ∷ rest)) κ
 
--- an answer takes exactly the steps that it spends
+-- a call that answers spends n - left steps, and gives the same answer with any number of steps more
 abbrev pub Exact : (ℕ → Question → Effect) → Type 0
 Exact effect = (q : Question) (n left : ℕ) (a : Answer) → effect n q ≡ world.Gives a left → (left ≤ n) × ((j : ℕ) → effect (n - left + j) q ≡ world.Gives a j)
 
@@ -76,7 +76,7 @@ module _ (effect : Calling) where
     broke = λ k j. ap (λ x. breaks x (t + j) c) (let g : 1 + k ≡ suc k = omega arith in g) ∙ ap (λ x. broken_act effect.does x (cminor_output c) (t + j) (breaks k)) e ∙ ap (λ x. broken_resumed x resume (breaks k)) (f j);
   }
 
-  -- a cut that is still going, with this output and at least n of work
+  -- a cut that is still going, with this output and at least n units of work
   pub record Cut (c : Config) (n : ℕ) (o : List ℕ) : Type 0 where
     pub k : ℕ
     pub j : ℕ
@@ -95,7 +95,7 @@ module _ (effect : Calling) where
     pub j : ℕ
     pub wrong : runs k j c ≡ record { stop = Wrong; output = o }
 
-  -- from c with n steps left the run reaches d, and its moves and calls pay for the steps that were taken
+  -- from c, with n steps left, the run reaches d, and its moves and calls pay for the steps that were spent
   pub record Reaches (c : Config) (n left : ℕ) (d : Config) : Type 0 where
     pub m : ℕ
     pub t : ℕ
@@ -122,7 +122,7 @@ module _ (effect : Calling) where
   pub one : (c d : Config) (n : ℕ) → cminor_move c ≡ Goes d → Reaches c n n d
   one c d n e = record { m = 1; t = 0; way = one_move c d e; fewer = omega arith; paid = omega arith }
 
-  -- a move that pays for a step
+  -- one move reaches the next configuration, and pays for one step
   pub one_paid : (c d : Config) (n : ℕ) → cminor_move c ≡ Goes d → Reaches c (suc n) n d
   one_paid c d n e = record { m = 1; t = 0; way = one_move c d e; fewer = omega arith; paid = omega arith }
 
@@ -142,8 +142,8 @@ module _ (effect : Calling) where
     pub reaches : Reaches c n s.steps to
     pub is : Q x s to
 
-  -- If the source goes wrong, so does the run. In a mode in which the source then runs for ever, the run continues with the same
-  -- output and at least n of work, in a call that runs for ever, or it breaks.
+  -- If the source goes wrong, so does the run. In a mode in which the source then runs for ever, the run continues, in a call
+  -- that runs for ever, with the same output and at least n units of work, or it breaks.
   abbrev pub Stuck : (stays : Bool) → Config → ℕ → List ℕ → Type 0
   Stuck true c n o = Cut c n o ⊎ Breaks c o
   Stuck false c n o = Lost c o
@@ -156,13 +156,13 @@ module _ (effect : Calling) where
   pub stuck_moved : (b : Bool) (c d : Config) (n : ℕ) (o : List ℕ) → cminor_move c ≡ Goes d → Stuck b d n o → Stuck b c n o
   stuck_moved b c d n o e h = stuck_after b c d n n o (one c d n e) h
 
-  -- the run breaks here
+  -- if the first move is one that the run cannot make, the run breaks at once
   pub stuck_here : (b : Bool) (c : Config) (n : ℕ) (o : List ℕ) → cminor_move c ≡ Fails → cminor_output c ≡ o → Stuck b c n o
   stuck_here true c n o e f = inr (record { k = 1; j = 0; broke = ap (λ x. broken_act effect.does x (cminor_output c) 0 (breaks 0)) e ∙ ap (λ x. Some x) f })
   stuck_here false c n o e f = record { k = 1; j = 0; wrong = ap (λ x. act effect.does x (cminor_output c) 0 (runs 0)) e ∙ ap (λ x. record { stop = Wrong; output = x }) f }
 
-  -- from c, with n steps left, the run does what the source does: if the source gives a value, the run reaches a configuration as
-  -- Q asks
+  -- from c, with n steps left, the run does what the source does: if the source gives a value, the run reaches a configuration
+  -- that satisfies Q
   abbrev pub Comes : {A : Type 0} → (A → State → Config → Type 0) → Config → ℕ → Run A → Type 0
   Comes Q c n (Gives x s) = Arrives Q c n x s
   Comes Q c n (meaning.Going o) = Cut c n o
@@ -173,7 +173,7 @@ module _ (effect : Calling) where
   comes_after Q c d n i (meaning.Going o) p h = cut_after c d n i o p h
   comes_after Q c d n i (meaning.Wrong cause o) p h = stuck_after (stays effect.mode cause) c d n i o p h
 
-  -- if the first move leads from c to d, it is enough to know this from d
+  -- if the first move leads from c to d, it is enough that `Comes` holds from d
   pub comes_moved : {A : Type 0} (Q : A → State → Config → Type 0) (c d : Config) (n : ℕ) (r : Run A) → cminor_move c ≡ Goes d → Comes Q d n r → Comes Q c n r
   comes_moved Q c d n r e h = comes_after Q c d n n r (one c d n e) h
 
@@ -188,7 +188,7 @@ module _ (effect : Calling) where
   comes_as Q R c n (meaning.Going o) h f = h
   comes_as Q R c n (meaning.Wrong cause o) h f = h
 
-  -- the run is there already
+  -- if Q holds already, the run has arrived without a move
   pub comes_here : {A : Type 0} (Q : A → State → Config → Type 0) (c : Config) (x : A) (s : State) → Q x s c → Comes Q c s.steps (Gives x s)
   comes_here Q c x s q = record { to = c; reaches = reaches_refl c s.steps; is = q }
 

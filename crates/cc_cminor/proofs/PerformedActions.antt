@@ -1,4 +1,4 @@
--- Assignments, increments and declarations.
+-- The code of assignments, increments and declarations does what they do in the source.
 use Rattle.std.proofs.Common.{◌≡◌, ℕ, suc, ◌<◌, ◌≤◌, Bool, true, false, if◌then◌else◌, List, [], ◌∷◌, ◌++◌, length, nat_lt, Option, Some, None, option_map, unwrap_or, is_some, slice_set, length-set, refl, sym, ap, ◌∙◌, subst, arith}
 use Rattle.std.proofs.lemmas.Bool.{ltb-true, ltb-false}
 use Rattle.std.proofs.lemmas.Option.{slice_get_past}
@@ -34,7 +34,7 @@ use Rattle.cc_cminor.proofs.Paths.{world_at, after_list, Calling, stuck_here, Co
 use Rattle.cc_cminor.proofs.Variables.{name_is_itself, holds_same, put_here, put_below, reads, writes, written_names, size_object, stored_object, binary_value, binary_none, PlainIs, plain_then, plain_given, plain_read, Fits, fits_length, object_is, variable_value, element_value, plain_is}
 use Rattle.cc_cminor.proofs.PutExpressions.{CallFacts, NeedsValue, set_needs, Puts, used_comes, puts}
 
--- the operator needs both operands
+-- the operator, if there is one, needs both operands
 abbrev TakesBoth : Option BinaryOperator → Type 0
 TakesBoth None = Unit {0}
 TakesBoth (Some op) = kind op ≡ Strict
@@ -164,7 +164,8 @@ module _ (effect : Calling) (g : Layout) where
   element_comes ns x k i e κ l s (meaning.Wrong cause o) known at h p =
       stuck_here effect (stays effect.mode cause) (config (Store (width_of g x) (object_of g x) (Local k) e) κ l (world_at s)) s.steps o (store_needs (width_of g x) (object_of g x) k (λ y. y) (λ y m z missing. missing) e κ l (world_at s) p.0) (sym p.1)
 
-  -- the new value, given the old one and the right side's
+  -- the code's expression has the new value that the source computes from the old one and that of the right
+  -- side
   new_by : (aop : Option BinaryOperator) (t u : Scalar) (d : Destination) (old e : Expression) (w : ℕ) (l : ℕ → ℕ) (s : State) → TakesBoth aop → PlainIs (old_value d s) s (value old l (world_at s)) → value e l (world_at s) ≡ Some w
       → PlainIs (new_value aop t u d w s) s (value (combined aop t u old e) l (world_at s))
   new_by None t u d old e w l s both p is = (refl, is)
@@ -174,7 +175,8 @@ module _ (effect : Calling) (g : Layout) where
       (λ x. subst (λ o. PlainIs (given op (binary_word op (working_type op t u) x w) s) s (then_value o (λ y. binary_word op (working_type op t u) x y))) (sym is) (plain_given op (binary_word op (working_type op t u) x w) s)))
 
   module _ (call : meaning.Calls) (n : ℕ) (facts : CallFacts effect g call n) where
-    -- the value is one expression of Cminor, or an expression with code before it
+    -- code that uses a value continues with it, whether the value is one expression of Cminor or has code
+    -- before it
     pub using_comes : {A : Type 0} (R : A → State → Config → Type 0) (e : Expr) (v : Environment) (k : ℕ) (f : Expression → Statement) (κ : Continuation) (l : ℕ → ℕ) (s : State) (go : ℕ → State → Run A)
         → NeedsValue f → Known g v e → free v ≤ k → s.steps < n → Fits g v.locals s l
         → ((x : Expression) (m : ℕ → ℕ) (u : State) (w : ℕ) → u.steps ≤ s.steps → Fits g v.locals u m → ((i : ℕ) → i < k → m i ≡ l i) → value x m (world_at u) ≡ Some w → Comes effect R (config (f x) κ m (world_at u)) u.steps (go w u))
@@ -189,7 +191,7 @@ module _ (effect : Calling) (g : Layout) where
     using_or_comes R w None v k f κ l s go needs known le lt h cont = cont (Constant w) l s w (omega arith) h (λ i below. refl) refl
     using_or_comes R w (Some e) v k f κ l s go needs known le lt h cont = using_comes R e v k f κ l s go needs known le lt h cont
 
-    -- code that takes the right side's value
+    -- code that uses the right side's value
     abbrev Takes : Environment → (State → Run ℕ) → (ℕ → (Expression → Statement) → Statement) → Type 0
     Takes v right code = (k : ℕ) (f : Expression → Statement) (κ : Continuation) (l : ℕ → ℕ) (s : State) (go : ℕ → State → Run Flow) → NeedsValue f → free v ≤ k → s.steps < n → Fits g v.locals s l
         → ((x : Expression) (m : ℕ → ℕ) (u : State) (w : ℕ) → u.steps ≤ s.steps → Fits g v.locals u m → ((i : ℕ) → i < k → m i ≡ l i) → value x m (world_at u) ≡ Some w → Comes effect (Falling κ v.locals) (config (f x) κ m (world_at u)) u.steps (go w u))
@@ -266,7 +268,7 @@ module _ (effect : Calling) (g : Layout) where
         local_stored (with_local t x v).locals x 0 (free v) (meaning.with_local x s) (put l (free v) 0) (number_here x v.locals) (declared_fits t x v l s h)
         ∙ ap (λ b. record s { locals = if b then record { name = x; word = 0 } ∷ s.locals else record { name = x; word = 0 } ∷ with_local_word x 0 s.locals }) (name_is_itself x)
 
-    -- the initialiser is set, then the other locals
+    -- the local is set to its initialiser, and then the other locals are set
     initialised_comes : (t : Scalar) (x : List ℕ) (e : Option Expr) (rest : List Declarator) (v : Environment) (κ : Continuation) (l : ℕ → ℕ) (s : State) → KnownOr g (with_local t x v) e → KnownDeclared g t rest (with_local t x v) → s.steps < n → Fits g v.locals s l
         → ((m : ℕ → ℕ) (z : State) → z.steps < n → Fits g (with_local t x v).locals z m → Comes effect (Falling κ (with_locals t rest (with_local t x v)).locals) (config (in_sequence (declared_code g t rest (with_local t x v))) κ m (world_at z)) z.steps (declare t rest call (with_local t x v).visible z))
         → Comes effect (Falling κ (with_locals t rest (with_local t x v)).locals) (config (in_sequence (initialised g (with_local t x v) (free v) e ++ declared_code g t rest (with_local t x v))) κ (put l (free v) 0) (world_at s)) s.steps

@@ -1,4 +1,4 @@
--- Code that puts the value of an expression into a variable, or hands on one expression of Cminor for it.
+-- Code that puts the value of an expression into a variable, or uses one expression of Cminor in its place.
 use Rattle.std.proofs.Common.{◌≡◌, inl, ℕ, zero, suc, ◌-◌, ◌<◌, ◌≤◌, ◌&&◌, ◌||◌, not, Bool, true, false, if◌then◌else◌, List, [], ◌∷◌, ◌++◌, length, Option, Some, None, refl, sym, ap, ◌∙◌, subst, arith}
 use Rattle.std.proofs.lemmas.Bool.{ne_eqb}
 use Rattle.cc_tokens.specs.declared.scalar.Scalar.{Scalar}
@@ -46,7 +46,7 @@ pub record CallFacts (effect : Calling) (g : Layout) (call : meaning.Calls) (n :
   pub reads : (x ws : List ℕ) (s : State) → callee g x ≡ ReadWord → s.steps < n → call x ws s ≡ read_input s.input s
   pub does : (x ws : List ℕ) (f : ℕ) (s : State) → callee g x ≡ Defined f → f < length g.functions → s.steps < n → sizes s.globals ≡ laid_sizes g.objects → CallIs effect call x ws f s
 
--- code that takes a value breaks if there is none
+-- code that uses a value breaks if the value is missing
 abbrev pub NeedsValue : (Expression → Statement) → Type 0
 NeedsValue f = (x : Expression) (κ : Continuation) (l : ℕ → ℕ) (h : World) → value x l h ≡ None → moves (f x) κ l h ≡ Fails
 
@@ -84,7 +84,7 @@ module _ (effect : Calling) (g : Layout) where
   set_comes k e κ ns l s (meaning.Wrong cause o) le h p =
       stuck_here effect (stays effect.mode cause) (config (Set k e) κ l (world_at s)) s.steps o (ap (λ x. tried x (λ w. Goes (config Skip κ (put l k w) (world_at s)))) p.0) (sym p.1)
 
-  -- code that takes a value continues with it
+  -- code that uses a value continues with it
   pub used_comes : {A : Type 0} (R : A → State → Config → Type 0) (b : Bool) (e : Expression) (code : Statement) (j : ℕ) (f : Expression → Statement) (κ : Continuation) (ns : List (List ℕ)) (l : ℕ → ℕ) (s : State) (r : Run ℕ) (go : ℕ → State → Run A)
       → NeedsValue f → Fits g ns s l → (b ≡ true → PlainIs r s (value e l (world_at s))) → ((κ : Continuation) → Comes effect (Puts j κ ns l) (config code κ l (world_at s)) s.steps r)
       → ((x : Expression) (m : ℕ → ℕ) (u : State) (w : ℕ) → u.steps ≤ s.steps → Fits g ns u m → ((i : ℕ) → i < j → m i ≡ l i) → value x m (world_at u) ≡ Some w → Comes effect R (config (f x) κ m (world_at u)) u.steps (go w u))
@@ -164,7 +164,7 @@ module _ (effect : Calling) (g : Layout) where
       (ap (λ c. values (locals_from k c) q.variables (world_at u)) (sym q.many) ∙ passed_values q.variables k ws (world_at u) q.passed) q.many))))
 
   module _ (call : meaning.Calls) (n : ℕ) (facts : CallFacts effect g call n) where
-    -- a call that does not finish is a cut that is still going
+    -- if a call does not finish, the run has a cut that is still going
     call_cut : (k f : ℕ) (us : List Expression) (ws : List ℕ) (κ : Continuation) (l : ℕ → ℕ) (s : State) (o : List ℕ) → values us l (world_at s) ≡ Some ws
         → effect.does s.steps (record { function = f; arguments = ws; world = world_at s }) ≡ world.Unfinished o → Cut effect (config (Call (Some k) f us) κ l (world_at s)) s.steps o
     call_cut k f us ws κ l s o ps e =
@@ -179,7 +179,7 @@ module _ (effect : Calling) (g : Layout) where
           enough = let g : works effect 1 s.steps c ≡ suc s.steps = ap (λ m. work_act effect.does m s.steps (works effect 0)) here ∙ ap (λ y. suc (work_resumed y resume s.steps (works effect 0))) e in omega arith;
         }
 
-    -- a call that goes wrong is a cut that goes wrong
+    -- if a call goes wrong, the run has a cut that goes wrong
     call_stuck : (b : Bool) (k f : ℕ) (us : List Expression) (ws : List ℕ) (κ : Continuation) (l : ℕ → ℕ) (s : State) (o : List ℕ) → values us l (world_at s) ≡ Some ws
         → effect.does s.steps (record { function = f; arguments = ws; world = world_at s }) ≡ (if b then world.Unfinished o else world.Failed o) → Stuck effect b (config (Call (Some k) f us) κ l (world_at s)) s.steps o
     call_stuck true k f us ws κ l s o ps e = inl (call_cut k f us ws κ l s o ps e)
@@ -265,7 +265,7 @@ module _ (effect : Calling) (g : Layout) where
         subst (λ r. Comes effect (Puts k κ ns l) (config (Call (Some k) f us) κ l (world_at s)) s.steps r) (sym (facts.does x ws f s e known lt h.sized).does)
         (call_comes k f us ws κ ns l s (facts.does x ws f s e known lt h.sized).what le h ps (facts.does x ws f s e known lt h.sized).same (facts.does x ws f s e known lt h.sized).keeps)
 
-    -- a call breaks if an argument has no value
+    -- if a list of one argument has no values, the argument has no value
     one_missing : (u : Expression) (l : ℕ → ℕ) (h : World) → values (u ∷ []) l h ≡ None → value u l h ≡ None
     one_missing u l h e = by (value u l h) e
       where
@@ -303,7 +303,7 @@ module _ (effect : Calling) (g : Layout) where
         (λ y m u w less fits same is. puts_from k κ v.locals l m _ u.steps (Gives (truth_value (is_true w)) u) same
         (set_gives k (truth_value (is_true w)) (truth_of y) κ v.locals m u le fits (truth_is y m (world_at u) w is)))
 
-    -- what && and || do after their left operand
+    -- after their left operand, && and || do what they do in the source
     and_comes : (w : ℕ) (x : Expression) (t : Scalar) (b : Expr) (v : Environment) (k : ℕ) (κ : Continuation) (l : ℕ → ℕ) (s : State) → value x l (world_at s) ≡ Some w → PutsValue b → Known g v b → free v ≤ k → s.steps < n → Fits g v.locals s l
         → Comes effect (Puts k κ v.locals l) (config (branch x (used (is_plain b) (plain g v b) (put_expr g v k b) k (λ y. Set k (truth_of y))) (Set k (Constant 0))) κ l (world_at s)) s.steps
         (unless_decided (decided source.LogicalAnd w) (λ u. then_do (evaluate b (types_in v) call u) (λ y z. given source.LogicalAnd (binary_word source.LogicalAnd t w y) z)) s)
@@ -334,7 +334,7 @@ module _ (effect : Calling) (g : Layout) where
         (branch_moves x (Set k (Constant 1)) (used (is_plain b) (plain g v b) (put_expr g v k b) k (λ y. Set k (truth_of y))) κ l (world_at s) (suc w) is)
         (set_gives k 1 (Constant 1) κ v.locals l s le h refl))
 
-    -- an operator whose left word waits in variable k
+    -- an operator whose left word waits in variable k does what it does in the source
     right_comes : (x : ℕ) (op : BinaryOperator) (t : Scalar) (b : Expr) (v : Environment) (k : ℕ) (κ : Continuation) (l : ℕ → ℕ) (s : State) → kind op ≡ Strict → l k ≡ x → PutsValue b → Known g v b → free v ≤ k → s.steps < n → Fits g v.locals s l
         → Comes effect (Puts k κ v.locals l) (config (used (is_plain b) (plain g v b) (put_expr g v (suc k) b) (suc k) (λ y. Set k (binary_of op t (Local k) y))) κ l (world_at s)) s.steps
         (unless_decided (decided op x) (λ u. then_do (evaluate b (types_in v) call u) (λ y z. given op (binary_word op t x y) z)) s)

@@ -56,7 +56,7 @@ module _ (g : Layout) (v : Environment) where
       and_plain (kind op) (is_plain a) (is_plain b) op (working_type op (value_type (types_in v) a) (value_type (types_in v) b)) (plain g v a) (plain g v b) (put_expr g v k a) (put_expr g v (suc k) b) (put_expr g v k b) k h
   plain-put k (Conditional c a b) h = absurd (let q : false ≡ true = h in cc)
 
-  -- a value as it is put into a variable, and as it is used
+  -- the code that puts a value into a variable, and the code that uses one, are what the definition says
   pub put-is : (k : ℕ) (e : Expr) → put_in k (taken g v k e).before (taken g v k e).value ≡ put_expr g v k e
   put-is k e = by (is_plain e) refl
     where

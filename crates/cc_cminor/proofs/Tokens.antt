@@ -1,4 +1,4 @@
--- The least number of tokens that spell a part of a tree, worked out from only the tree; an argument's comma is not counted.
+-- The least number of tokens that spell a part of a tree, computed from only the tree; an argument's comma is not counted.
 use Rattle.std.proofs.Common.{◌≡◌, ℕ, suc, ◌+◌, ◌≤◌, List, [], ◌∷◌, ◌++◌, length, map, Option, Some, None, ◌⊎◌, inl, inr, refl, sym, ap, ◌∙◌, arith}
 use Rattle.std.proofs.lemmas.List.{length-append, length-map}
 use Rattle.cc_tokens.specs.Token.{Lexeme}
@@ -41,7 +41,7 @@ abbrev pub optional_tokens : Option Action → ℕ
 optional_tokens None = 0
 optional_tokens (Some a) = action_tokens a
 
--- a name, its initialiser, and what ends it
+-- the tokens of declared names, each with its initialiser and the token that ends it
 abbrev pub declared_tokens : List Declarator → ℕ
 declared_tokens [] = 0
 declared_tokens (d ∷ rest) = 2 + tokens_or d.initial + declared_tokens rest
@@ -68,7 +68,7 @@ abbrev mutual
   statements_tokens end = 0
   statements_tokens (next first rest) = statement_tokens first + statements_tokens rest
 
--- ---- the tokens of what spells it
+-- ---- what spells a tree has at least that many tokens
 
 full_long : (xs : List Lexeme) (n : ℕ) → length (full_after n xs) ≡ length xs
 full_long [] n = refl
@@ -205,6 +205,6 @@ mutual
   statements_long (next s ss) level ts h =
       let l = ap length h.4 in let a = length-append h.0 h.1 in let p = statement_long s level h.0 h.2 in let q = statements_long ss level h.1 h.3 in omega arith
 
--- the body's braces are two tokens
+-- a definition has at least two tokens, its body's braces, in addition to those of the body's statements
 pub definition_long : (f : Signature) (body : Stmts) (ts : List Measured) → SpellsExternal ts (Definition f body) → 2 + statements_tokens body ≤ length ts
 definition_long f body ts h = let l = ap length h.5 in let a = length-append h.0 h.1 in let p = statement_long (Block body) 1 h.1 h.4 in omega arith

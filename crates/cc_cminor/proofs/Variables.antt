@@ -189,7 +189,7 @@ extent_by : (b : Bool) (p : LaidObject) (ps : List LaidObject) (x : List ℕ) �
 extent_by true p ps x = refl
 extent_by false p ps x = refl
 
--- how many elements an object has
+-- an object has as many elements as the layout says
 pub size_object : (gs : List Global) (ps : List LaidObject) (x : List ℕ) → sizes gs ≡ laid_sizes ps → length (global_words gs x) ≡ (extent_of ps x).length
 size_object [] [] x e = refl
 size_object [] (p ∷ ps) x e = absurd (let q : ◌≡◌ {A = List NamedSize} [] (laid_sizes (p ∷ ps)) = e in cc)
@@ -203,7 +203,7 @@ width_by : (b : Bool) (k u : Width) (p : LaidObject) (ps : List LaidObject) (x :
 width_by true k u p ps x e f = e
 width_by false k u p ps x e f = f
 
--- how wide an object's elements are
+-- an object's elements are as wide as the layout says
 width_object : (gs : List Global) (ps : List LaidObject) (x : List ℕ) → sizes gs ≡ laid_sizes ps → width_by_name gs x ≡ (extent_of ps x).width
 width_object [] [] x e = refl
 width_object [] (p ∷ ps) x e = absurd (let q : ◌≡◌ {A = List NamedSize} [] (laid_sizes (p ∷ ps)) = e in cc)
@@ -262,7 +262,7 @@ truth_by false = refl
 truth_twice : (a : ℕ) → is_zero (is_zero a) ≡ truth_value (is_true a)
 truth_twice a = truth_by (a == 0)
 
--- 0 and 1 are their own truth
+-- the truth of a word that is 0 or 1 is that word
 kept_truth : (b : Bool) (w : ℕ) → Some (truth_value b) ≡ Some w → Some w ≡ Some (truth_value (is_true w))
 kept_truth b w is = let e : truth_value b ≡ w = cc in subst (λ x. Some x ≡ Some (truth_value (is_true x))) e (ap (λ c. Some (truth_value c)) (sym (truth_holds b)))
 

@@ -29,14 +29,14 @@ pub record Breaking {C : Type 0} (move : C → Move C) (output : C → List ℕ)
   pub steps : ℕ
   pub breaks : broken move output effect moves steps start ≡ Some o
 
--- the source is not finished, and the run breaks
+-- the source is not finished, and the run breaks with its output
 abbrev pub BreaksAt : {C : Type 0} → (C → Move C) → (C → List ℕ) → (ℕ → Question → Effect) → Effect → (start : C) → Type 0
 BreaksAt move output effect (Gives a left) start = ⊥
 BreaksAt move output effect (Unfinished o) start = Breaking move output effect start o
 BreaksAt move output effect (Failed o) start = ⊥
 
 -- A function's run keeps up with its body in the source, or it breaks with the source's output while the source is not finished.
--- This is for a meaning in which a program that goes wrong runs for ever: the code by itself does not do that.
+-- The meaning is one in which a program that goes wrong runs for ever, which the code by itself does not do.
 abbrev pub TracksOrBreaks : Meaning → (function rate : ℕ) → {C : Type 0} → (C → Move C) → (C → List ℕ) → (start : List ℕ → World → C) → Type 0
 TracksOrBreaks meaning f rate move output start =
     (opened : ℕ) → opened < most_open → (ws : List ℕ) (h : World) → IsCall meaning f ws h → (n : ℕ)

@@ -1,5 +1,5 @@
--- Cminor: numbered word variables, expressions without effect, and structured statements. Its syntax as data, and what one move does;
--- from these the run of a function follows as in every intermediate language (`Rattle.cc_simulation.specs.Run`).
+-- Cminor: numbered word variables, expressions without side effects, and structured statements. Its syntax as data, and what one move
+-- does; from these the run of a function follows as in every intermediate language (`Rattle.cc_simulation.specs.Run`).
 use Rattle.std.specs.Prelude.{ℕ, zero, suc, ◌==◌, List, [], ◌∷◌, Option, Some, None, if◌then◌else◌, get_or}
 use Rattle.cc_words.specs.declared.operators.Unary as one
 use Rattle.cc_words.specs.declared.operators.Binary as two
@@ -18,8 +18,7 @@ pub data Expression : Type 0 where
   Binary : two.Binary → Expression → Expression → Expression
   Load : (width : Width) → (object : ℕ) → (index : Expression) → Expression
 
--- a statement. The result of a call or a read goes into a variable or is dropped; a loop runs for ever; `Exit k` leaves k + 1
--- blocks.
+-- a statement. The result of a call or a read goes into a variable or is dropped; a loop runs for ever; `Exit k` leaves k + 1 blocks.
 pub data Statement : Type 0 where
   Skip : Statement
   Set : (variable : ℕ) → Expression → Statement
@@ -45,8 +44,7 @@ abbrev pub then_value : {A B : Type 0} → Option A → (A → Option B) → Opt
 then_value None go = None
 then_value (Some a) go = go a
 
--- the value of an expression; None if an operator has no value, an index is outside its object, or the object's elements have
--- another width
+-- the value of an expression; None if an operator has no value, an index is outside its object, or the object's elements have another width
 abbrev pub value : Expression → Variables → World → Option ℕ
 value (Constant w) l h = Some w
 value (Local i) l h = Some (l i)
@@ -94,12 +92,12 @@ skips (Then s κ) l h = Goes (config s κ l h)
 skips (Again s κ) l h = Goes (config s (Again s κ) l h)
 skips (Leaving κ) l h = Goes (config Skip κ l h)
 
--- what remains of an exit after one block is left
+-- what remains of an exit after it has left one block
 abbrev pub left_by : ℕ → Statement
 left_by zero = Skip
 left_by (suc k) = Exit k
 
--- an exit leaves one part of what remains after another; at the function's end no block is left to leave
+-- an exit leaves the parts of what remains, one by one; at the function's end there is no block to leave
 abbrev pub exits : ℕ → Continuation → Variables → World → Move Config
 exits k Ends l h = Fails
 exits k (Then s κ) l h = Goes (config (Exit k) κ l h)

@@ -12,12 +12,12 @@ expression_of (Unary' op p e) = cminor.Unary op (expression_of e)
 expression_of (Binary' op p a q b) = cminor.Binary op (expression_of a) (expression_of b)
 expression_of (Load' width o p e) = cminor.Load width o (expression_of e)
 
--- the same for a list of expressions
+-- the expressions that the values of a list represent
 abbrev pub expressions_of : List Expression → List cminor.Expression
 expressions_of [] = []
 expressions_of (e ∷ rest) = expression_of e ∷ expressions_of rest
 
--- one statement after another; the last one is not followed by a statement that does nothing
+-- one statement after another, with no `Skip` added after the last one
 abbrev pub in_sequence : List cminor.Statement → cminor.Statement
 in_sequence [] = cminor.Skip
 in_sequence (a ∷ []) = a

@@ -6,12 +6,12 @@ use Rattle.cc_cminor.specs.Cminor.{Expression, Constant, Local, Unary, Binary, L
 abbrev pub most_variables : ℕ
 most_variables = 2048
 
--- in code that comes from C they are below this: a function has at most 8 parameters and 256 locals, and in a full expression of
--- at most 512 tokens fewer than 512 values wait
+-- in code made from C, numbers of variables are below this: a function has at most 8 parameters and 256 locals, and in a full
+-- expression of at most 512 tokens fewer than 512 values wait
 abbrev pub most_lowered : ℕ
 most_lowered = 1024
 
--- a unit has at most this many objects, since each has a word, and at most this many functions
+-- a unit has at most this many objects, since each has at least one word; the next is the most functions of a unit
 abbrev pub most_objects : ℕ
 most_objects = 65536
 

@@ -35,7 +35,7 @@ tree_of p = (source p.unit).externals
 abbrev pub code_of : Pair → Statement
 code_of p = statement_of p.statement
 
--- each call is of a function of the unit, with as many arguments as that has parameters
+-- each call is of a function of the unit, with as many arguments as the function has parameters
 abbrev pub AreCalls : List External → Statement → Type 0
 AreCalls unit Skip = Unit {0}
 AreCalls unit (Set x e) = Unit {0}

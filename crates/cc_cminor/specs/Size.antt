@@ -54,7 +54,7 @@ partial ShrS = 1
 partial ShrU = 1
 partial op = 0
 
--- in an expression, including its reads of elements
+-- how many operations of an expression can lack a value, including its reads of elements
 abbrev pub partials : Expression → ℕ
 partials (Constant w) = 0
 partials (Local x) = 0
@@ -80,7 +80,7 @@ code_partials (Block a) = code_partials a
 code_partials (Exit k) = 0
 code_partials (Return e) = partials e
 
--- the code of function f has at most one such operation for each token of the function's definition, for any tokens that spell it
+-- function f's code has at most one operation that can lack a value for each token of any list that spells its definition
 abbrev pub AtMostOnePartialAToken : List External → (f : ℕ) → Statement → Type 0
 AtMostOnePartialAToken unit f s =
     (definition : External) → slice_get (definitions unit) f ≡ Some definition → (tokens : List Measured) → SpellsExternal tokens definition

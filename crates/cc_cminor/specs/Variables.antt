@@ -10,7 +10,7 @@ abbrev pub above_result : (count : ℕ) → Option ℕ → ℕ
 above_result count None = count
 above_result count (Some x) = above count x
 
--- the same for the variables of an expression, of several, of a statement
+-- the smallest number at least this count and above each variable of an expression, of a list, of a statement
 abbrev pub above_expression : (count : ℕ) → Expression → ℕ
 above_expression count (Constant w) = count
 above_expression count (Local x) = above count x

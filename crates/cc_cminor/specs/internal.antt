@@ -5,5 +5,5 @@ pub mod Statements
 pub mod Lowering
 -- the code of a resolved function
 pub mod Lowered
--- a value that code takes
+-- a value that code uses
 pub mod Taken

@@ -1,4 +1,4 @@
-// Statements and expressions of Cminor, made in boxes.
+// Statements and expressions of Cminor in boxes.
 
 ghost use Rattle.std.specs.Prelude.{◌≡◌, ◌+◌, IfOk};
 ghost use Rattle.cc_cminor.specs.Cminor as cminor;
@@ -8,7 +8,7 @@ ghost use Rattle.cc_cminor.specs.internal.Statements.{statements_of};
 use super::code::{Expression, Statement};
 use std::alloc::{AllocError, Global};
 
-/// The variable that is this many above another. Each of these holds a value of the tree, so memory runs out long before numbers do.
+/// The variable that is `count` above another. Each variable holds a value of the tree, so memory runs out long before numbers do.
 pub fn above(variable: usize, count: usize) -> Result<usize, AllocError>
     ensures { IfOk result (λ n. n ≡ variable + count) }
 {
@@ -60,7 +60,7 @@ pub fn set(
     boxed_statement(alloc, Statement::Set(variable, value))
 }
 
-/// Two statements, one after the other.
+/// A statement that runs two statements one after the other.
 pub fn both(
     alloc: Global,
     first: Box<Statement>,
@@ -74,7 +74,7 @@ pub fn both(
     boxed_statement(alloc, Statement::Sequence(all))
 }
 
-/// These statements, one after another.
+/// A statement that runs these statements one after another.
 pub fn sequence(alloc: Global, all: Vec<Statement>) -> Result<Box<Statement>, AllocError>
     ensures { IfOk result (λ s. statement_of s.value ≡ in_sequence (statements_of all.items)) }
 {

@@ -1,7 +1,7 @@
 // Branches: what a branch tests, chosen to cost least.
 //
 // A branch only asks whether a word is 0. So a comparison need not be turned into a word of 0 or 1 if another word is 0 in the
-// same cases, or in exactly the others; then the two branches are exchanged.
+// same cases. A word that is 0 in exactly the other cases will also do, with the two branches exchanged.
 
 ghost use Rattle.std.specs.Prelude.{◌≡◌, if◌then◌else◌, IfOk};
 ghost use Rattle.cc_cminor.specs.Cminor as cminor;
@@ -90,7 +90,7 @@ fn compared(
     }
 }
 
-// Whether the tested word is 0 exactly if the operator's value is not.
+// Whether the tested word is 0 exactly if the operator's value is not 0.
 fn is_opposite(operator: Binary, right: &Expression) -> bool
     ensures { result ≡ is_opposite operator (expression_of right.now) }
 {
@@ -101,7 +101,7 @@ fn is_opposite(operator: Binary, right: &Expression) -> bool
     }
 }
 
-// What a branch tests, and whether that is 0 exactly if the value is not.
+// What a branch tests, and whether the tested word is 0 exactly if the value is not 0.
 fn condition(alloc: Global, test: Box<Expression>) -> Result<(Box<Expression>, bool), AllocError>
     ensures condition { IfOk result (λ t. expression_of t.0.value ≡ condition (expression_of test.value)) }
     ensures reversed { IfOk result (λ t. t.1 ≡ is_reversed (expression_of test.value)) }

@@ -1,6 +1,6 @@
 // The text of Cminor: a line for each statement, indented by two more spaces inside an `if`, a `loop` or a `block`. Variables are
 // `v0`, `v1` and so on, objects `o0`, functions `f0`; words are unsigned decimals; `byte` precedes an element that is a byte. A
-// sequence is written as its statements' lines.
+// sequence is written as the lines of its statements.
 
 use super::code::{Expression, Statement};
 use super::pair::CminorPair;

@@ -1,4 +1,4 @@
-// Expressions: the value that code takes, in one walk over the tree.
+// Expressions: the value that code uses, in one walk over the tree.
 //
 // The statements that put a value into variable k set only k and variables above it. Whether arguments are plain is tested only
 // at their call, so each part of an expression is tested once. The recursion is as deep as the tree, which has at most 512 tokens
@@ -58,7 +58,7 @@ fn are_plain(trees: &[Tree]) -> bool
 
 // ---- calls
 
-// This many variables from `k` on.
+// `count` variables, from `k` on.
 fn locals_from(alloc: Global, k: usize, count: usize) -> Result<Vec<Expression>, AllocError>
     ensures { IfOk result (λ v. code.expressions_of v.items ≡ locals_from k count) }
 {
@@ -69,7 +69,7 @@ fn locals_from(alloc: Global, k: usize, count: usize) -> Result<Vec<Expression>,
     Ok(all)
 }
 
-// The last argument, which is the only one of a call with one argument.
+// The last argument: the only argument of a call that has one.
 fn last(alloc: Global, mut arguments: Vec<Expression>) -> Result<Box<Expression>, AllocError>
     ensures { IfOk result (λ e. expression_of e.value ≡ last_value (code.expressions_of arguments.items)) }
 {
@@ -81,7 +81,7 @@ fn last(alloc: Global, mut arguments: Vec<Expression>) -> Result<Box<Expression>
     }
 }
 
-// The statements that write a word; the value of such a call is 0.
+// The statements that write a word and put 0, the value of the call, into variable `k`.
 fn write(alloc: Global, k: usize, word: Box<Expression>) -> Result<Box<Statement>, AllocError>
     ensures { IfOk result (λ s. statement_of s.value ≡ cminor.Sequence (cminor.Write (expression_of word.value)) (cminor.Set k (cminor.Constant 0))) }
 {

@@ -1,10 +1,10 @@
-//! From C to Cminor: numbered word variables, expressions without effect, and structured statements; the first of the compiler's
-//! languages after C.
+//! From C to Cminor: numbered word variables, expressions without side effects, and structured statements; the first of the
+//! compiler's languages after C.
 //!
 //! - `code`: the syntax; `display`: its text.
 //! - `pair`: the type that guarantees that a function's Cminor does what the function does.
 //! - `lower`: makes a pair. `statements`, `actions` and `expressions`, each using the next, write the code, with `taken` (values
-//!   that code takes), `access`, `operators` and `boxes` below.
+//!   that code uses), `access`, `operators` and `boxes` below.
 //!
 //! How a body becomes Cminor is a definition in `specs/internal`. Lemmas in `proofs` show that it keeps up with the function
 //! (`Bodies`), how large it is (`Counts`) and which numbers it has (`Fits`).

@@ -39,7 +39,8 @@ fn lowered(alloc: Global, unit: &TypedUnit, function: usize) -> Result<Box<State
     code
 }
 
-// Makes the pair of such code. What its type guarantees are laws of the meaning, applied to this unit.
+// Makes a pair of a function's lowered code. What the pair's type guarantees follows from the laws of the meaning, applied to
+// this unit.
 fn paired(unit: Arc<TypedUnit>, function: usize, code: Box<Statement>) -> CminorPair
     requires function { function < length (defined_names (source (arc_value unit))) }
     requires code { IsLowered (source (arc_value unit)).externals function (statement_of code.value) }
@@ -65,7 +66,7 @@ fn paired(unit: Arc<TypedUnit>, function: usize, code: Box<Statement>) -> Cminor
 /// than depth, the code reaches something that it cannot do, with the same output (`fails_alike`, `goes_wrong`): nothing that may
 /// go wrong is left out.
 ///
-/// `AllocError` if memory runs out.
+/// Fails with `AllocError` if memory runs out.
 pub fn to_cminor(
     alloc: Global,
     unit: &Arc<TypedUnit>,

@@ -1,7 +1,8 @@
 // Declarations and statements.
 //
-// Only loops make blocks: `break` leaves the block around the loop, `continue` the block of the body. So a loop's condition and
-// what follows its body are between the two. The recursion is as deep as the tree: at most 64 levels.
+// Only loops make blocks: `break` leaves the block around the loop, `continue` the block of the body. So a loop's condition,
+// and what follows its body, are inside the outer block but outside the inner one. The recursion is as deep as the tree: at
+// most 64 levels.
 
 ghost use Rattle.std.specs.Prelude.{◌≡◌, ◌≤◌, ◌-◌, ◌++◌, true, length, drop, IfOk, OnOk};
 ghost use Rattle.cc_ast.specs.Tree as tree;
@@ -25,7 +26,7 @@ use cc_ast::{
 use cc_resolve::{Environment, declare_locals};
 use std::alloc::{AllocError, Global};
 
-// Removes all locals declared since this many were in scope, and closes the scope; the scope around it has declared `around`
+// Removes the newest locals until only `locals` are left, and closes the scope; the scope around it has declared `around`
 // names.
 fn close(names: &mut Environment<'_>, locals: usize, around: usize)
     requires { around ≤ length names.old.visible.outer }
@@ -39,7 +40,7 @@ fn close(names: &mut Environment<'_>, locals: usize, around: usize)
 
 // ---- declarations
 
-// The initialiser of the local with this number; the local is in scope in it.
+// Adds the code of a local's initialiser, if there is one; the local is in scope in its own initialiser.
 fn initialise(
     alloc: Global,
     names: &Environment<'_>,
@@ -130,7 +131,7 @@ fn leave(alloc: Global, in_loop: bool, blocks: usize) -> Result<Box<Statement>, 
     }
 }
 
-// The end of the function, with a value.
+// A `return` with a value.
 fn give_back(alloc: Global, given: Taken) -> Result<Box<Statement>, AllocError>
     ensures { IfOk result (λ s. statement_of s.value ≡ behind_code (code_before given.before) (cminor.Return (expression_of given.expression.value))) }
 {

@@ -1,4 +1,4 @@
-// A value that code takes: an expression of Cminor, and the code before it if there is some.
+// A value that code uses: an expression of Cminor, and the code before it, if any.
 //
 // An expression in which C prescribes no order (one without a call, `&&`, `||` or `?:`) has no side effects. It becomes one
 // expression of Cminor, with no code before it. Every other value waits in a variable k, after the code that puts it there. If
@@ -20,7 +20,7 @@ use cc_ast::{BinaryOperator, Scalar, UnaryOperator};
 use cc_types::{binary_type, common_type, unary_type, working_type};
 use std::alloc::{AllocError, Global};
 
-/// The type of a value, the code before it if there is some, and the expression that has the value after that code.
+/// The type of a value; the code before it, if any; and the expression that has the value after that code.
 #[derive(Drop)]
 pub struct Taken {
     pub scalar: Scalar,
@@ -80,7 +80,7 @@ pub fn alone(taken: Taken) -> Box<Expression>
     expression
 }
 
-/// A statement, after the code that has to precede the value that it takes.
+/// A statement, after the code that has to precede the value that it uses.
 pub fn behind(
     alloc: Global,
     before: Option<Box<Statement>>,
@@ -115,7 +115,7 @@ pub fn kept(
     }
 }
 
-/// The statement that puts a value into variable `k`, which has the value already if it waits.
+/// The statement that puts a value into variable `k`. If the value waits, it is in `k` already.
 pub fn put_in(alloc: Global, k: usize, taken: Taken) -> Result<Box<Statement>, AllocError>
     ensures { IfOk result (λ s. statement_of s.value ≡ put_in k (code_before taken.before) (expression_of taken.expression.value)) }
 {

@@ -1,9 +1,9 @@
 // The allocator, in its steps: webs, their interferences, the order of Chaitin and Briggs, registers according to wishes, slots,
 // blocks.
 //
-// At first all webs are whole. Then webs are cut at calls: first those for which a slot over the calls is cheaper than a saved
-// register, later those that calls keep and that got no register. If a value in a slot has to go through a register and none is
-// free, everything is chosen again, with two registers that no web gets.
+// At first all webs are whole. Then webs are cut at calls: first those for which a slot over the calls costs no more than a
+// saved register, later those that calls keep and that got no register. If a value in a slot has to go through a register and
+// none is free, everything is chosen again, with two registers that no web gets.
 
 use crate::blocks::{Placed, blocks};
 use crate::interference::{Code, Graph, Partner, Web};
@@ -20,12 +20,12 @@ use cc_ltl::{Block, Ltl};
 use cc_rtl_language::Rtl;
 use std::alloc::{AllocError, Global};
 
-/// Webs are cut again at most this often.
+/// Registers are chosen for cut webs at most this many times. After the last, no more webs are cut.
 const ROUNDS: u32 = 3;
 
-/// LTL for the function. Pseudo-registers share registers, and get slots only if the registers don't suffice. `live` should be
-/// the live sets; whatever they are, there is an answer. If something is too large for this allocator, the answer is that of
-/// `spill_all`. Err: memory ran out.
+/// LTL for the function. Pseudo-registers share registers, and get slots if the registers do not suffice or if a slot is
+/// cheaper. `live` should be the live sets; whatever it is, there is an answer. If something is too large for this allocator,
+/// the answer is that of `spill_all`. `Err` if memory runs out.
 pub fn colour(alloc: Global, rtl: &Rtl, live: &Liveness) -> Result<Ltl, AllocError> {
     let next = next_places(alloc, rtl)?;
     let weights = weights(alloc, next.as_slice())?;
@@ -74,7 +74,7 @@ fn coloured_whole(alloc: Global, code: Code<'_>) -> Result<Option<Ltl>, AllocErr
     Ok(None)
 }
 
-// Whether keeping a web over its calls costs less in a slot than in a saved register.
+// Whether keeping a web over its calls costs no more in a slot than in a saved register.
 fn is_cheap_to_cut(graph: &Graph, web: &Web) -> bool {
     if web.kept == 0 {
         return false;
@@ -94,8 +94,8 @@ fn is_cheap_to_cut(graph: &Graph, web: &Web) -> bool {
     by_slot <= moves.saturating_add(SAVING)
 }
 
-// The same with some webs cut; if none is cut, the pieces are the whole webs. If more webs should be cut, they are marked, and
-// the answer is None. If there are too many pieces, the answer is None and nothing is marked.
+// Like `coloured_whole`, but with some webs cut; if none is cut, the pieces are the whole webs. If more webs should be cut, they
+// are marked, and the answer is None. If there are too many pieces, all marks are cleared and the answer is None.
 fn coloured_cut(
     alloc: Global,
     whole: Known<'_>,
@@ -163,8 +163,8 @@ fn coloured_pieces(
     Ok(None)
 }
 
-// Marks the whole webs that calls keep and that have a piece that should have a register but has none. Answers whether there was
-// one.
+// Marks each whole web that calls keep and that has a piece without the register that it should have. Answers whether it marked
+// any.
 fn cut_more(
     whole: &Graph,
     choice: &Choice,

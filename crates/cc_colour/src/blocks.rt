@@ -27,7 +27,7 @@ pub struct Placed<'a> {
     pub sole: &'a [Option<usize>],
 }
 
-/// A word that is fetched from its slot into a register one node before the node that takes it.
+/// A word that is fetched from its slot into a register one node before the node that needs it.
 #[derive(Clone, Copy)]
 struct Early {
     slot: u16,
@@ -35,8 +35,8 @@ struct Early {
 }
 
 impl Placed<'_> {
-    // The word that a node takes from a slot in addition to a constant set by the node before it. It is fetched before both, so
-    // that these two stay neighbours.
+    // The word that a node takes from a slot in addition to a constant set by the node before it. It is fetched before both nodes, so that
+    // the two stay neighbours.
     fn early(self, at: usize) -> Option<Early> {
         let before = self.sole.get(at).copied().flatten()?;
         let shape = self.code.shape;
@@ -103,7 +103,7 @@ struct Draft<'a> {
     crossings: Crossings,
 }
 
-/// All blocks; None if a register was needed and none was free. Err: memory ran out.
+/// All blocks; None if a register was needed and none was free. `Err` if memory runs out.
 pub fn blocks(alloc: Global, placed: Placed<'_>) -> Result<Option<Vec<Block>>, AllocError> {
     let rtl = placed.code.shape.rtl;
     let mut blocks = Vec::with_capacity(alloc, rtl.len())?;
@@ -134,7 +134,7 @@ fn no_draft(alloc: Global, placed: Placed<'_>) -> Draft<'_> {
     }
 }
 
-// The moves in the form in which a block takes them; no moves if there are more than a block can have.
+// The moves in the form in which a block holds them; no moves if there are more than a block can have.
 fn moves(alloc: Global, moves: Vec<Move>) -> Moves {
     match Moves::new(moves) {
         Ok(moves) => moves,
@@ -249,7 +249,7 @@ impl Draft<'_> {
         }
     }
 
-    // Fetches what the node after a constant takes in addition to the constant.
+    // Fetches what the node after a constant needs in addition to the constant.
     fn fetch_early(&mut self) {
         let shape = self.placed.code.shape;
         if let Some(behind) = shape.behind(self.at)
@@ -331,7 +331,8 @@ impl Draft<'_> {
         self.failed |= found.is_err();
     }
 
-    // Moves what a call cuts to its slot before the call, unless it is there already or stays in a register that the call keeps.
+    // Before a call, moves each web that the call cuts to its slot, unless the word is there already or stays in a register that the call
+    // keeps.
     fn leave(&mut self) {
         for crossing in &self.crossings.all {
             if let Some(transfer) = self.placed.leaving(*crossing) {
@@ -371,7 +372,7 @@ impl Draft<'_> {
         }
     }
 
-    // For a move of RTL only moves are needed: two if it goes from slot to slot.
+    // For a move of RTL, only moves are needed: two if it goes from slot to slot.
     fn copy(&mut self, register: u32) {
         match (self.result(), self.operand(register)) {
             (Some(to), Some(from)) => self.copy_place(to, from),
@@ -423,7 +424,7 @@ impl Draft<'_> {
         operation_of(node, used)
     }
 
-    // The registers of an operation that may have any registers.
+    // The registers for an operation that can use any registers.
     fn used(&mut self, node: &Node) -> Used {
         let mut used = nothing_used();
         let [first, second] = operands(node);

@@ -31,7 +31,8 @@ impl Forest {
         }
     }
 
-    /// Numbers the classes by their least numbers, and answers the class of each number, and the number of classes. Err: memory ran out.
+    /// Numbers the classes by their least numbers, and answers the class of each number, and the number of classes. `Err` if memory runs
+    /// out.
     pub fn numbered(&mut self, alloc: Global) -> Result<(Vec<u32>, u32), AllocError> {
         let mut classes = Vec::with_capacity(alloc, self.parents.len())?;
         let mut count = 0u32;

@@ -96,7 +96,7 @@ impl<'a> Code<'a> {
     }
 }
 
-/// A wish, and the number of the same web's wish before it.
+/// A wish, and the number of the web's previous wish.
 #[derive(Clone, Copy)]
 pub struct Wished {
     pub wish: Wish,
@@ -112,7 +112,7 @@ pub struct Graph {
 }
 
 impl Graph {
-    /// The graph of a function. Err: memory ran out.
+    /// The graph of a function. `Err` if memory runs out.
     pub fn of(alloc: Global, code: Code<'_>) -> Result<Graph, AllocError> {
         let mut graph = Graph::empty(alloc, code.webs.count(), code.shape.rtl.len())?;
         graph.add_nodes(alloc, code)?;
@@ -130,7 +130,7 @@ impl Graph {
         self.wishes.get(at).copied()
     }
 
-    // A graph of this many webs about which nothing is known, with room for one wish for each node.
+    // A graph of `count` webs about which nothing is known yet, with room for one wish for each node.
     fn empty(alloc: Global, count: u32, nodes: usize) -> Result<Graph, AllocError> {
         Ok(Graph {
             edges: Matrix::new(alloc, count)?,
@@ -158,7 +158,7 @@ impl Graph {
         Ok(())
     }
 
-    // Parameters are set all at once, before the entry.
+    // Adds what happens before the entry: all parameters are set at once.
     fn add_entry(&mut self, code: Code<'_>, at: usize) -> Result<(), AllocError> {
         for parameter in 0..code.shape.rtl.parameters().min(ARGUMENT_REGISTERS) {
             if let Some(web) = code.at(at, parameter) {
@@ -198,7 +198,7 @@ impl Graph {
         }
     }
 
-    // What a node sets interferes with what is live afterwards, except with what it is a copy of.
+    // What a node sets interferes with what is live afterwards, except with the web that the node copies.
     fn add_edges(&mut self, behind: &[u32], set: u32, copied: Option<u32>) {
         for web in behind {
             if *web != set && Some(*web) != copied {
@@ -207,8 +207,8 @@ impl Graph {
         }
     }
 
-    // The registers that a read or a write overwrites by itself are forbidden to what is live after it. The result of the node,
-    // and the word that it takes from such a register, are exceptions.
+    // The registers that a read or a write overwrites by itself are forbidden to what is live after the node. The node's result, and the
+    // word that it takes from such a register, are exceptions.
     fn forbid_overwritten(&mut self, code: Code<'_>, at: usize, node: &Node, read: Read) {
         match node {
             Node::Read { .. } => {
@@ -361,8 +361,8 @@ fn copied(node: &Node, read: Read) -> Option<u32> {
     }
 }
 
-// The web that the node after a constant sets, if that node is the last to read the constant and its instruction may have it as
-// an immediate.
+// The web that the node after a constant sets, if that node is the last to read the constant and the constant fits in an immediate of its
+// instruction.
 fn overwriting(code: Code<'_>, at: usize, constant: u32) -> Option<u32> {
     let behind = code.shape.behind(at)?;
     let node = code.shape.rtl.at(behind)?;

@@ -48,17 +48,21 @@ impl Shape<'_> {
     }
 }
 
-/// The places to which each node leads. Err: memory ran out.
+/// The places to which each node leads. `Err` if memory runs out.
 pub fn next_places(alloc: Global, rtl: &Rtl) -> Result<Vec<Next>, AllocError> {
-    let mut all = Vec::with_capacity(alloc, rtl.len())?;
-    for at in 0..rtl.len() {
-        let (first, second) = labels(rtl.node(at));
-        all.push([place_of(rtl, first), place_of(rtl, second)])?;
+    let graph = rtl.graph(alloc)?;
+    let mut all = Vec::with_capacity(alloc, graph.len())?;
+    for at in 0..graph.len() {
+        all.push(match graph.successors(at) {
+            [] => [None, None],
+            [next] => [Some(*next), None],
+            [nonzero, zero, ..] => [Some(*nonzero), Some(*zero)],
+        })?;
     }
     Ok(all)
 }
 
-/// For each node, the only place that leads to it; None if several places do, or none does. Err: memory ran out.
+/// For each node, the only place that leads to it; None if several places do, or none does. `Err` if memory runs out.
 pub fn sole_places(alloc: Global, next: &[Next]) -> Result<Vec<Option<usize>>, AllocError> {
     let mut sole = vec![in alloc; None; next.len()]?;
     let mut is_led_to = vec![in alloc; false; next.len()]?;
@@ -81,33 +85,6 @@ fn lead_to(sole: &mut [Option<usize>], is_led_to: &mut [bool], at: usize, place:
     }
 }
 
-// The place that has this label: a place and its label are the same number.
-fn place_of(rtl: &Rtl, label: Option<u32>) -> Option<usize> {
-    let place = label? as usize;
-    if place < rtl.len() { Some(place) } else { None }
-}
-
-fn labels(node: &Node) -> (Option<u32>, Option<u32>) {
-    match node {
-        Node::Nop { next }
-        | Node::Const { next, .. }
-        | Node::Move { next, .. }
-        | Node::Unary { next, .. }
-        | Node::Binary { next, .. }
-        | Node::Load { next, .. }
-        | Node::Store { next, .. }
-        | Node::Call { next, .. }
-        | Node::Read { next, .. }
-        | Node::Write { next, .. } => (Some(*next), None),
-        Node::Branch {
-            if_nonzero,
-            if_zero,
-            ..
-        } => (Some(*if_nonzero), Some(*if_zero)),
-        Node::Return { .. } => (None, None),
-    }
-}
-
 /// The pseudo-register that a node writes.
 pub fn result(node: &Node) -> Option<u32> {
     match node {
@@ -126,7 +103,7 @@ pub fn result(node: &Node) -> Option<u32> {
     }
 }
 
-/// The pseudo-registers that a node other than a call reads, in their order: at most two.
+/// The pseudo-registers that a node other than a call reads, in order: at most two.
 pub fn operands(node: &Node) -> [Option<u32>; 2] {
     match node {
         Node::Move { from: one, .. }
@@ -152,7 +129,7 @@ pub fn operands(node: &Node) -> [Option<u32>; 2] {
 }
 
 /// An estimate of how often each node is executed: 1, times 10 for each loop around it, up to four loops. A loop is everything from a
-/// node to the last node after it that leads back to it. Err: memory ran out.
+/// node to the last node after it that leads back to it. `Err` if memory runs out.
 pub fn weights(alloc: Global, next: &[Next]) -> Result<Vec<u32>, AllocError> {
     let mut weights = vec![in alloc; 1; next.len()]?;
     if !has_loop(next) {
@@ -168,7 +145,7 @@ pub fn weights(alloc: Global, next: &[Next]) -> Result<Vec<u32>, AllocError> {
     Ok(weights)
 }
 
-// Whether some node leads back.
+// Whether some node leads to itself or to an earlier node.
 fn has_loop(next: &[Next]) -> bool {
     for (at, heads) in next.iter().enumerate() {
         for head in *heads {
@@ -227,8 +204,8 @@ fn ten_to(depth: u32) -> u32 {
     }
 }
 
-/// The left operand of an operation, if its right operand is `constant`, the left one is another register, and the instruction
-/// may have the constant as an immediate.
+/// The left operand of an operation, if its right operand is `constant`, the left one is another register, and the constant fits in
+/// an immediate of the instruction.
 pub fn beside_constant(node: &Node, constant: u32) -> Option<u32> {
     match node {
         Node::Binary {

@@ -4,8 +4,8 @@ use crate::registers::{DUMMY, numbered};
 use cc_ltl::{Operation, Register};
 use cc_rtl_language::Node;
 
-/// The registers of an operation: those of its operands in their order, and that of its result. An operand or result that it does
-/// not have may be given any register.
+/// The registers of an operation: those of its operands, in order, and that of its result. An operand or result that it does not
+/// have may be given any register.
 #[derive(Clone, Copy)]
 pub struct Used {
     pub first: Register,

@@ -9,7 +9,7 @@ use crate::interference::{Graph, Web};
 use crate::registers::{ALL, Registers};
 use std::alloc::{AllocError, Global};
 
-/// The webs in the order in which they get their registers. No web gets a register of `reserved`. Err: memory ran out.
+/// The webs in the order in which they get their registers. No web gets a register of `reserved`. `Err` if memory runs out.
 pub fn colouring_order(
     alloc: Global,
     graph: &Graph,
@@ -36,7 +36,8 @@ pub fn colouring_order(
     Ok(order)
 }
 
-// The webs that are left: with how many of them each one interferes, which webs are taken out, and which get a register for sure.
+// The webs that are left: how many of them each web interferes with, which webs are taken out, and which are certain to get a
+// register.
 #[derive(Drop)]
 struct Left<'a> {
     graph: &'a Graph,
@@ -66,7 +67,7 @@ impl<'a> Left<'a> {
         Ok(left)
     }
 
-    // Takes a web out. Answers whether it was still in.
+    // Takes a web out. Answers whether it had not been taken out before.
     fn take_out(&mut self, web: u32) -> Result<bool, AllocError> {
         match self.taken_out.get_mut(web as usize) {
             Some(out) if !*out => *out = true,
@@ -117,7 +118,7 @@ impl<'a> Left<'a> {
         Ok(keys)
     }
 
-    // Finds the webs that get a register for sure, the cheapest last.
+    // Finds the webs that are certain to get a register, the cheapest last.
     fn find_easy(&mut self, by_cost: &[(u64, u32)]) -> Result<(), AllocError> {
         for (_, web) in by_cost.iter().rev() {
             if let Some(known) = self.graph.webs.get(*web as usize)

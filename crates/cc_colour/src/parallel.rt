@@ -1,8 +1,8 @@
 // Orders moves that should happen all at once, so that they can be done one after the other.
 //
 // A move may be done when no other move still reads the place that it writes. If no move may be done, each of them is on a cycle
-// of registers: one register is copied to a spare register, which is read instead of it from then on, and the move into that
-// register may be done.
+// of registers: one register is copied to a spare register, which is read instead of it from then on, and then the move into the
+// copied register may be done.
 
 use crate::registers::{Place, Registers, first_free, numbered, numbered_slot, only};
 use cc_ltl::Move;
@@ -16,8 +16,8 @@ pub struct Transfer {
 }
 
 /// Adds to `into` moves that do all the pending ones, which write different places. Apart from their targets, no register of
-/// `kept` is changed. Answers whether there was a spare register for each cycle; if not, some moves are left out. Err: memory ran
-/// out.
+/// `kept` is changed. Answers whether there was a spare register for each cycle; if not, some moves are left out. `Err` if memory
+/// runs out.
 pub fn in_parallel(
     pending: &mut Vec<Transfer>,
     kept: Registers,
@@ -43,7 +43,7 @@ pub fn in_parallel(
     Ok(true)
 }
 
-/// Adds one move. A move from slot to slot does not exist: then nothing is added. Err: memory ran out.
+/// Adds one move. For a move from slot to slot, which LTL does not have, nothing is added. `Err` if memory runs out.
 pub fn push_move(into: &mut Vec<Move>, transfer: Transfer) -> Result<(), AllocError> {
     match as_move(transfer) {
         Some(one) => put(into, one),

@@ -24,7 +24,8 @@ pub struct Places<'a> {
 }
 
 impl<'a> Places<'a> {
-    /// The places of webs, given their chosen registers, the whole web of each, and the graph of whole webs. Err: memory ran out.
+    /// The places of webs, given their chosen registers, the whole web of each, and the graph of whole webs. `Err` if memory runs
+    /// out.
     pub fn of(
         alloc: Global,
         code: Code<'_>,
@@ -43,7 +44,7 @@ impl<'a> Places<'a> {
         if places.want_slots(pieces) {
             places.put_slots(alloc, pieces, whole)?;
         }
-        // A whole web never leaves its place at a call, so it is never asked whether it is dirty.
+        // A whole web never leaves its place at a call, so whether it is dirty does not matter.
         if !origins.are_same() {
             places.find_dirty(alloc, code, pieces)?;
         }

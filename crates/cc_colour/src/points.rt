@@ -11,7 +11,7 @@ pub struct Points {
 }
 
 impl Points {
-    /// The points of this many nodes. Err: memory ran out.
+    /// The points of this many nodes. `Err` if memory runs out.
     pub fn of(alloc: Global, nodes: usize, live: Live<'_>) -> Result<Points, AllocError> {
         let mut firsts = Vec::with_capacity(alloc, nodes.saturating_add(1))?;
         let mut count = 0usize;
@@ -50,8 +50,8 @@ impl Points {
         Some(point.saturating_add(ones(bits & bit.wrapping_sub(1))))
     }
 
-    /// Fills a list with pairs of points: those of each register that is live before both nodes, except one register. Err: memory
-    /// ran out.
+    /// Fills a list with pairs of points: those of each register that is live before both nodes, except one register. `Err` if
+    /// memory runs out.
     pub fn common(
         &self,
         live: Live<'_>,
@@ -86,7 +86,7 @@ struct Row {
 }
 
 impl Row {
-    // The point that comes after a bit, which belongs to the next one in the word; the same point if the bit is not set.
+    // The first point past a bit of the word: the next point if the bit is set, else the same one.
     fn past(self, bit: u64) -> usize {
         if self.bits & bit == 0 {
             self.first

@@ -26,13 +26,13 @@ pub type Registers = u32;
 /// All registers to which code may be allocated: x7 to x31.
 pub const ALL: Registers = 0xffff_ff80;
 
-/// What a call destroys: x7, x10 to x17, x28 to x31.
+/// The registers that a call destroys: x7, x10 to x17, x28 to x31.
 pub const DESTROYED: Registers = 0xf003_fc80;
 
 /// Calls and reads put their result in this register, and a word to write or to return is taken from it.
 pub const RESULT: u8 = 10;
 
-/// What a read and a write destroy.
+/// The register that a read or a write destroys.
 pub const SERVICE: u8 = 17;
 
 /// The register that an operation gets if it needs none, or if none is free.
@@ -41,8 +41,9 @@ pub const DUMMY: u8 = 31;
 /// How many arguments have a register: x10 to x31.
 pub const ARGUMENT_REGISTERS: u32 = 22;
 
-/// The registers in the order in which they are tried if nothing else decides: first those that calls destroy and that hold no
-/// argument, then the argument registers from the last to the first, then those that a function has to save.
+/// The registers in the order in which they are tried if nothing else decides: first those that calls destroy and that hold
+/// none of the first eight arguments, then the registers of these eight from the last to the first, then those that a function
+/// has to save.
 pub const ORDER: [u8; 25] = [
     28, 29, 30, 31, 7, 17, 16, 15, 14, 13, 12, 11, 10, 8, 9, 18, 19, 20, 21, 22, 23, 24, 25, 26, 27,
 ];

@@ -2,7 +2,7 @@
 //
 // A web takes the register that saves the most moves, out of those that no interfering web has. Its own wishes count for a
 // register. The wishes of interfering webs that have none yet count against it, and so does the cost of a register that the
-// function would have to save. A web has a slot if no register is left for it, or if a slot is cheaper.
+// function would have to save. A web gets a slot if no register is left for it, or if a slot is cheaper.
 
 use crate::interference::{Graph, Partner, Web};
 use crate::registers::{ALL, DESTROYED, ORDER, Registers, contains, only};
@@ -27,7 +27,7 @@ pub struct Choice {
 }
 
 impl Choice {
-    /// Chooses for the webs, in the given order. No web gets a register of `reserved`. Err: memory ran out.
+    /// Chooses for the webs, in the given order. No web gets a register of `reserved`. `Err` if memory runs out.
     pub fn of(
         alloc: Global,
         graph: &Graph,

@@ -15,7 +15,7 @@ use std::alloc::{AllocError, Global};
 const FIRST_ARGUMENT: u8 = 10;
 
 /// LTL for the function in which each pseudo-register has a slot of its own: slot i for pseudo-register i. If more than 495 slots are
-/// needed, the answer is some LTL that the validator may refuse. Err: memory ran out.
+/// needed, the answer is some LTL that the validator may refuse. `Err` if memory runs out.
 pub fn spill_all(alloc: Global, rtl: &Rtl) -> Result<Ltl, AllocError> {
     let slots = Slots::of(rtl);
     let mut blocks = Vec::with_capacity(alloc, rtl.len())?;

@@ -48,7 +48,7 @@ impl Crossing {
     }
 }
 
-/// A list of crossings, and room for finding them.
+/// A list of crossings, and the room used to find them.
 #[derive(Drop)]
 pub struct Crossings {
     pub all: Vec<Crossing>,
@@ -99,7 +99,7 @@ pub struct Webs {
 }
 
 impl Webs {
-    /// The webs of a function, cut if cuts are given; None if there are too many. Err: memory ran out.
+    /// The webs of a function, cut if cuts are given; None if there are too many. `Err` if memory runs out.
     pub fn of(
         alloc: Global,
         shape: &Shape<'_>,
@@ -150,7 +150,7 @@ impl Webs {
         self.results.get(node).copied().flatten()
     }
 
-    /// The whole web of each piece. Err: memory ran out.
+    /// The whole web of each piece. `Err` if memory runs out.
     pub fn origins(&self, alloc: Global, whole: &Webs) -> Result<Origins, AllocError> {
         let mut origins = vec![in alloc; 0u32; self.count as usize]?;
         for (piece, web) in self.webs.iter().zip(whole.webs.iter()) {
@@ -162,8 +162,8 @@ impl Webs {
         Ok(Origins { origins })
     }
 
-    /// For each register that a call keeps, puts its webs before and after the call in a list; at another node the list is empty. Err:
-    /// memory ran out.
+    /// For each register that a call keeps, puts its webs before and after the call in a list; at another node the list is empty.
+    /// `Err` if memory runs out.
     pub fn crossings(
         &self,
         shape: &Shape<'_>,

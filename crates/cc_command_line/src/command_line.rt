@@ -24,7 +24,8 @@ use std::convert::AsStr;
 pub enum Work {
     /// Perform a task for the text.
     One(Task),
-    /// Show what the compiler makes of each function of the text, or only of the function with that name, for an image of this kind.
+    /// Show each function of the text, or only the function with that name, at each stage of the compiler, for an image of this
+    /// kind.
     Stages(Kind, Option<String>),
     /// Print the newest things that a run of the text does.
     Trace(Traced),
@@ -79,7 +80,7 @@ fn work_of(alloc: Global, name: &str, given: &ArgMatches<'_>) -> Result<Work, Re
     }
 }
 
-// The rule that a work breaks, if its program is in this many files and it is to be printed as JSON or not.
+// The rule that a work breaks, if it breaks one, given how many files its program is in and whether it is to be printed as JSON.
 fn broken_rule(work: &Work, files: usize, is_json: bool) -> Option<&'static str> {
     if files > 0 && !reads_program(work) {
         return Some(NO_FILE_RULE);

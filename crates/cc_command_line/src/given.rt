@@ -58,54 +58,57 @@ pub(crate) const WORKERS: Word = Word(
 /// The option for the room of a library. Its help differs from command to command.
 pub(crate) const FORMAT: &str = "format";
 
-const LEAST_AREA: u64 = 64;
+/// The least and the most number that a word or an option may give, and the rule that any other breaks.
+#[derive(Clone, Copy)]
+pub(crate) struct Allowed(pub(crate) u64, pub(crate) u64, pub(crate) &'static str);
 
-const MOST_AREA: u64 = 1_073_741_824;
+const STEP_COUNTS: Allowed = Allowed(
+    0,
+    MOST_STEPS,
+    "STEPS is a decimal number from 0 to 1000000000",
+);
 
-const MOST_WORKERS: u64 = 8;
+const AREAS: Allowed = Allowed(
+    64,
+    1_073_741_824,
+    "AREA is a decimal number of bytes from 64 to 1073741824",
+);
 
-const STEPS_RULE: &str = "STEPS is a decimal number from 0 to 1000000000";
+const WORKER_COUNTS: Allowed = Allowed(1, 8, "N is a decimal number from 1 to 8");
 
 const INPUT_RULE: &str =
     "WORD is a decimal number from 0 to 4294967295; a negative number is written as its value modulo 4294967296, \
     for example 4294967295 for -1; a file is named by --file FILE";
 
-const AREA_RULE: &str = "AREA is a decimal number of bytes from 64 to 1073741824";
-
-const WORKERS_RULE: &str = "N is a decimal number from 1 to 8";
-
 const PATH_RULE: &str = "an empty path names no file and no folder";
 
-/// The number that a word or an option gives, from `least` to `most`. Anything else breaks `rule`, which is then shown.
+/// The number that a word or an option gives, if it is allowed. Anything else breaks the rule, which is then shown.
 pub(crate) fn number_of(
     given: &ArgMatches<'_>,
     name: &str,
-    least: u64,
-    most: u64,
-    rule: &'static str,
+    allowed: Allowed,
 ) -> Result<u64, Refused>
-    ensures { IfOk result (λ n. (least ≤ n) × (n ≤ most)) }
+    ensures { IfOk result (λ n. (allowed.0 ≤ n) × (n ≤ allowed.1)) }
 {
+    let Allowed(least, most, rule) = allowed;
     match number_in(given.get_str(name).unwrap_or(""), least, most) {
         Some(number) => Ok(number),
         None => Err(Refused::ByCommand(rule)),
     }
 }
 
-/// The same number, if the word or the option is given.
+/// As `number_of`, if the word or the option is given.
 pub(crate) fn number_if_given(
     given: &ArgMatches<'_>,
     name: &str,
-    least: u64,
-    most: u64,
-    rule: &'static str,
+    allowed: Allowed,
 ) -> Result<Option<u64>, Refused>
-    ensures { IfOk result (λ number. IfSome number (λ n. (least ≤ n) × (n ≤ most))) }
+    ensures { IfOk result (λ number. IfSome number (λ n. (allowed.0 ≤ n) × (n ≤ allowed.1))) }
 {
     if given.get_str(name).is_none() {
         return Ok(None);
     }
-    match number_of(given, name, least, most, rule) {
+    match number_of(given, name, allowed) {
         Ok(number) => Ok(Some(number)),
         Err(refused) => Err(refused),
     }
@@ -115,10 +118,10 @@ pub(crate) fn number_if_given(
 pub(crate) fn steps_of(given: &ArgMatches<'_>) -> Result<u64, Refused>
     ensures { IfOk result (λ steps. steps ≤ MOST_STEPS) }
 {
-    number_of(given, "STEPS", 0, MOST_STEPS, STEPS_RULE)
+    number_of(given, "STEPS", STEP_COUNTS)
 }
 
-// The words that these texts write; nothing if one of them is not a word.
+// The words that these texts write; `None` if one of them is not a word.
 fn words_in(alloc: Global, texts: &[&str]) -> Result<Option<Vec<u32>>, AllocError> {
     let mut words = Vec::new(alloc);
     for text in texts {
@@ -151,7 +154,7 @@ pub(crate) fn kind_of(given: &ArgMatches<'_>) -> Kind {
 pub(crate) fn workers_of(given: &ArgMatches<'_>) -> Result<usize, Refused>
     ensures { IfOk result (λ workers. (1 ≤ workers) × (workers ≤ 8)) }
 {
-    match number_of(given, "workers", 1, MOST_WORKERS, WORKERS_RULE) {
+    match number_of(given, "workers", WORKER_COUNTS) {
         Ok(workers) => Ok(workers as usize),
         Err(refused) => Err(refused),
     }
@@ -161,13 +164,13 @@ pub(crate) fn workers_of(given: &ArgMatches<'_>) -> Result<usize, Refused>
 pub(crate) fn area_of(given: &ArgMatches<'_>) -> Result<u32, Refused>
     ensures { IfOk result (λ area. (64 ≤ area) × (area ≤ 1073741824)) }
 {
-    match number_of(given, FORMAT, LEAST_AREA, MOST_AREA, AREA_RULE) {
+    match number_of(given, FORMAT, AREAS) {
         Ok(area) => Ok(area as u32),
         Err(refused) => Err(refused),
     }
 }
 
-/// The same number of bytes, if the option is given.
+/// As `area_of`, if the option is given.
 pub(crate) fn area_if_given(given: &ArgMatches<'_>) -> Result<Option<u32>, Refused>
     ensures { IfOk result (λ area. IfSome area (λ a. (64 ≤ a) × (a ≤ 1073741824))) }
 {
@@ -180,7 +183,7 @@ pub(crate) fn area_if_given(given: &ArgMatches<'_>) -> Result<Option<u32>, Refus
     }
 }
 
-/// The text of a word; none if it is not given.
+/// The text of a word; `None` if the word is not given.
 pub(crate) fn text_if_given(
     alloc: Global,
     given: &ArgMatches<'_>,

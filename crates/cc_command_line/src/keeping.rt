@@ -1,5 +1,5 @@
-// The commands that look into libraries in files, put back a unit of one, and copy one: `call`, `diff`, `log`, `restore` and `copy`; and what
-// they and `size` ask for.
+// The commands that look into libraries in files, put back a unit of a library, or copy a library: `call`,
+// `diff`, `log`, `restore` and `copy`; and what they and `size` ask for.
 
 ghost use Rattle.std.specs.Prelude.{◌≤◌, IfOk};
 ghost use Rattle.cc_command_line.specs.Work.{IsAllowed};
@@ -11,7 +11,7 @@ use crate::given::{
 };
 use crate::refused::Refused;
 use crate::row::{Form, Row, Word};
-use crate::unit::{AT_RULE, MOST_COMMANDS};
+use crate::unit::COMMANDS;
 use cc_task::Kind;
 use clap::ArgMatches;
 use std::alloc::Global;
@@ -27,22 +27,22 @@ Example:
 
 With `--lines` each line of standard input is the words of one run, and its answer ends with an empty line.";
 
-// The same for `diff`.
+// What a person reads below the words of `diff`.
 const DIFF_HELP: &str = "\
 A line for each difference, in the order of the names: `left NAME` or `right NAME` if one library alone has the unit,
 else `source NAME`, `image NAME` and `certificate NAME`. Nothing is printed if both hold the same: status 0, else 1.";
 
-// The same for `log`.
+// What a person reads below the words of `log`.
 const LOG_HELP: &str = "\
 A line for each command since the last compaction: `K add NAME 801 120` with the bytes of the source and the words of
 the code, `K replace NAME 812 123` or `K withdraw NAME`. What command K stored: cclib source DISK NAME --at K";
 
-// The same for `restore`.
+// What a person reads below the words of `restore`.
 const RESTORE_HELP: &str = "\
 What is put back is the unit that command K of `cclib log DISK` stored under the name, to the byte: as an add where the
 name has no unit, else as a replace. A compaction, and `copy`, leave one add a unit, and so nothing to go back to.";
 
-// The same for `copy`.
+// What a person reads below the words of `copy`.
 const COPY_HELP: &str = "\
 The units are copied to the byte: source, image and certificate. Nothing may have the name NEW; it is given when all is written.
 A larger AREA makes a library grow, a smaller one is refused with the least that would do.
@@ -137,7 +137,7 @@ pub(crate) static COPY: Row = Row {
     help: COPY_HELP,
 };
 
-/// A unit that is to be run. It is in the library in a file.
+/// What `call` is to run: a unit of the library in a file.
 #[derive(Drop)]
 pub struct Calling {
     /// The path of the file.
@@ -146,7 +146,7 @@ pub struct Calling {
     pub name: String,
     /// How many instructions a run may take at most.
     pub steps: u64,
-    /// The words of the one run.
+    /// The input words of the one run.
     pub words: Vec<u32>,
     /// Whether standard input has the words of a run in each line, in place of `words`.
     pub is_lines: bool,
@@ -196,7 +196,7 @@ pub struct Copying {
 pub enum Keeping {
     /// Run a unit.
     Call(Calling),
-    /// Say how much the image of a unit takes.
+    /// Say how much memory the image of a unit takes.
     Size(Measuring),
     /// Show the differences between the libraries in two files.
     Diff(String, String),
@@ -208,7 +208,7 @@ pub enum Keeping {
     Copy(Copying),
 }
 
-// The input of the one run of `call`. With `--lines` there must be none.
+// The input of the one run of `call`. With `--lines` no word may be given.
 fn call_input_of(
     alloc: Global,
     given: &ArgMatches<'_>,
@@ -267,7 +267,7 @@ pub(crate) fn log_of(alloc: Global, given: &ArgMatches<'_>) -> Result<Work, Refu
 pub(crate) fn restore_of(alloc: Global, given: &ArgMatches<'_>) -> Result<Work, Refused>
     ensures { IfOk result IsAllowed }
 {
-    let number = number_of(given, "K", 1, MOST_COMMANDS, AT_RULE)?;
+    let number = number_of(given, "K", COMMANDS)?;
     let Unit { disk, name } = unit_of(alloc, given)?;
     Ok(Work::Keep(Keeping::Restore(Restoring { disk, name, number })))
 }

@@ -1,14 +1,15 @@
 //! The command line of the program: which words ask for what.
 //!
-//! The crate needs only `clap` and `cc_task` and knows nothing about the language, so it is proved in parallel with the crates that do.
+//! The crate needs only `clap` and `cc_task` and knows nothing about the language, so it is proved in parallel with the crates that know
+//! about it.
 //!
 //! - `row`: a command as a row of a table, from which its parser is made; `commands`: the table.
 //! - `program`, `watch`, `unit`, `keeping`, `library`, `spool`: the rows, each with what its words ask for. `given` has the words that several
 //!   commands share, `files` the files of a program, `json` the option for JSON, `numbers` the numbers.
 //! - `command_line` reads a command line, `refused` has the errors for words that break a rule, `telling` prints them.
 //!
-//! The crate exports `read_invocation`, `line`, `read_or_tell`, `Work` with what each kind of work needs (`Task` of `cc_task`, `Wanted`,
-//! `Session`, `Server`, `Submitter`), and the definitions that their contracts name (`specs/`).
+//! The crate exports `read_invocation`, `line`, `read_or_tell`, `refused_bytes`, `tell_bytes`, their types (above all `Work`, with what
+//! each kind of work needs), and the definitions that their contracts name (`specs/`).
 #![tactic(auto)]
 
 mod command_line;

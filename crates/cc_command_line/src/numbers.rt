@@ -19,7 +19,7 @@ pub(crate) fn number_in(text: &str, least: u64, most: u64) -> Option<u64>
     }
 }
 
-/// The input word that a text of digits writes; nothing if the text is anything else or the number is too large.
+/// The input word that a text of digits writes; `None` if the text is anything else or the number is too large.
 pub(crate) fn word_in(text: &str) -> Option<u32> {
     if !is_decimal(text) {
         return None;

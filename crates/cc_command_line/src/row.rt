@@ -22,11 +22,11 @@ pub(crate) enum Form {
     Global,
     /// `--NAME VALUE`, with the name by which help calls the value.
     Value(&'static str),
-    /// The same for an option that has to be given.
+    /// `--NAME VALUE`, an option that has to be given.
     RequiredValue(&'static str),
-    /// The same, with the value that counts if the option is not given.
+    /// `--NAME VALUE`, with the value that counts if the option is not given.
     Default(&'static str, &'static str),
-    /// The same for an option that may be given any number of times, also as `-` and this letter.
+    /// `--NAME VALUE`, an option that may be given any number of times, also as `-` and this letter.
     Values(&'static str, char),
 }
 

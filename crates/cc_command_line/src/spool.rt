@@ -6,8 +6,8 @@ ghost use Rattle.cc_command_line.specs.Work.{IsAllowed};
 use crate::command_line::Work;
 use crate::files::FILE;
 use crate::given::{
-    ALL_CHECKED, DISK, FORMAT, WORKERS, area_if_given, kind_of, number_if_given, number_of,
-    path_of, workers_of,
+    ALL_CHECKED, Allowed, DISK, FORMAT, WORKERS, area_if_given, kind_of, number_if_given,
+    number_of, path_of, workers_of,
 };
 use crate::refused::Refused;
 use crate::row::{Form, Row, Word};
@@ -15,33 +15,21 @@ use cc_task::Kind;
 use clap::ArgMatches;
 use std::alloc::{AllocError, Global};
 
-/// A server has at most this many clients: scripts that are run at a time.
-const MOST_CLIENTS: u64 = 64;
+/// How many clients a server has: scripts that are run at a time.
+const CLIENTS: Allowed = Allowed(1, 64, "N is a decimal number from 1 to 64");
 
-/// A server keeps answers for at most this many days.
-const MOST_DAYS: u64 = 3650;
+/// For how many days a server keeps answers.
+const DAYS: Allowed = Allowed(1, 3650, "DAYS is a decimal number from 1 to 3650");
 
-/// A server keeps answers up to a number of bytes before it removes old ones. The number is at least this: 1 MiB.
-const LEAST_DONE: u64 = 1_048_576;
+/// Up to how many bytes a server keeps answers before it removes old ones: from 1 MiB to 1 TiB.
+const DONE_BYTES: Allowed = Allowed(
+    1_048_576,
+    1_099_511_627_776,
+    "BYTES is a decimal number from 1048576 to 1099511627776",
+);
 
-/// That number is at most this: 1 TiB.
-const MOST_DONE: u64 = 1_099_511_627_776;
-
-/// A script may be at work for at most this many seconds while others wait.
-const MOST_PATIENCE: u64 = 86_400;
-
-/// A script waits for a server for at most this many seconds.
-const MOST_WAIT: u64 = 86_400;
-
-const CLIENTS_RULE: &str = "N is a decimal number from 1 to 64";
-
-const KEEP_RULE: &str = "DAYS is a decimal number from 1 to 3650";
-
-const DONE_RULE: &str = "BYTES is a decimal number from 1048576 to 1099511627776";
-
-const PATIENCE_RULE: &str = "SECONDS is a decimal number from 1 to 86400";
-
-const WAIT_RULE: &str = "SECONDS is a decimal number from 1 to 86400";
+/// How many seconds a script may be at work while others wait, and how many a script waits for a server.
+const SECONDS: Allowed = Allowed(1, 86_400, "SECONDS is a decimal number from 1 to 86400");
 
 const WAS_RULE: &str =
     "`update NAME` takes --was OLDFILE, a file with the source that is to be replaced, and no other line does";
@@ -171,12 +159,12 @@ pub struct Server {
     pub kind: Kind,
     /// How many scripts are run at a time: 1 to 64.
     pub clients: usize,
-    /// For how many days answers that nobody took away are kept: 1 to 3,650.
+    /// How many days answers that nobody took away are kept: 1 to 3,650.
     pub keep: u32,
     /// How many bytes of answers are kept before the oldest go: 1 MiB to 1 TiB.
     pub done: u64,
-    /// For how many seconds a script may be at work while other scripts wait for a client, or while the end of a generation or of the server
-    /// waits for it: 1 to 86,400.
+    /// How many seconds a script may be at work while other scripts wait for a client, or while the end of a generation or of
+    /// the server waits for it: 1 to 86,400.
     pub patience: u32,
 }
 
@@ -194,7 +182,7 @@ pub struct Submitter {
     /// The path of the file with the source that a line `update` is to replace. It is given exactly if the line's first word is
     /// `update`.
     pub was: Option<String>,
-    /// For how many seconds it waits, whether or not a server is there, if that is given: 1 to 86,400.
+    /// How many seconds it waits, whether or not a server is there: 1 to 86,400, if given.
     pub wait: Option<u32>,
 }
 
@@ -210,10 +198,10 @@ fn limits_of(given: &ArgMatches<'_>) -> Result<Limits, Refused>
     ensures { IfOk result (λ limits. (1 ≤ limits.clients) × (limits.clients ≤ 64) × (1 ≤ limits.keep) × (limits.keep ≤ 3650)
         × (1048576 ≤ limits.done) × (limits.done ≤ 1099511627776) × (1 ≤ limits.patience) × (limits.patience ≤ 86400)) }
 {
-    let clients = number_of(given, "clients", 1, MOST_CLIENTS, CLIENTS_RULE)?;
-    let keep = number_of(given, "keep", 1, MOST_DAYS, KEEP_RULE)?;
-    let done = number_of(given, "done", LEAST_DONE, MOST_DONE, DONE_RULE)?;
-    let patience = number_of(given, "patience", 1, MOST_PATIENCE, PATIENCE_RULE)?;
+    let clients = number_of(given, "clients", CLIENTS)?;
+    let keep = number_of(given, "keep", DAYS)?;
+    let done = number_of(given, "done", DONE_BYTES)?;
+    let patience = number_of(given, "patience", SECONDS)?;
     Ok(Limits {
         clients: clients as usize,
         keep: keep as u32,
@@ -249,11 +237,11 @@ pub(crate) fn serve_of(alloc: Global, given: &ArgMatches<'_>) -> Result<Work, Re
     }))
 }
 
-// For how many seconds a script waits, if that is given.
+// How many seconds a script waits, if that is given.
 fn wait_of(given: &ArgMatches<'_>) -> Result<Option<u32>, Refused>
     ensures { IfOk result (λ wait. IfSome wait (λ seconds. (1 ≤ seconds) × (seconds ≤ 86400))) }
 {
-    match number_if_given(given, "wait", 1, MOST_WAIT, WAIT_RULE) {
+    match number_if_given(given, "wait", SECONDS) {
         Ok(Some(seconds)) => Ok(Some(seconds as u32)),
         Ok(None) => Ok(None),
         Err(refused) => Err(refused),
@@ -265,7 +253,7 @@ fn is_word(word: &str) -> bool {
     word.bytes().all(|byte| byte != b' ' && byte != b'\n')
 }
 
-// Whether all of these may be.
+// Whether each of these words may be a word of a line.
 fn are_words(words: &[&str]) -> bool {
     for word in words {
         if !is_word(word) {
@@ -275,7 +263,7 @@ fn are_words(words: &[&str]) -> bool {
     true
 }
 
-// The line that these words make, with a space between two.
+// These words as one line, separated by single spaces.
 fn line_of(alloc: Global, words: &[&str]) -> Result<String, AllocError> {
     let mut line = String::new(alloc);
     for word in words {

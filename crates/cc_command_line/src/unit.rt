@@ -6,7 +6,7 @@ ghost use Rattle.cc_command_line.specs.Work.{IsAllowed};
 
 use crate::command_line::Work;
 use crate::files::FILE;
-use crate::given::{CHECKED, DISK, NAME, Unit, kind_of, number_if_given, unit_of};
+use crate::given::{Allowed, CHECKED, DISK, NAME, Unit, kind_of, number_if_given, unit_of};
 use crate::keeping::{Keeping, Measuring};
 use crate::refused::Refused;
 use crate::row::{Form, Row, Word};
@@ -14,10 +14,17 @@ use cc_task::{Kind, Part, Task};
 use clap::ArgMatches;
 use std::alloc::Global;
 
-/// The most commands whose records a library can have.
-pub(crate) const MOST_COMMANDS: u64 = 1_073_741_824;
+/// DISK and NAME of the commands that do without a library too.
+const ANY_DISK: Word = Word("DISK", Form::Optional, "The file that has the library");
 
-pub(crate) const AT_RULE: &str = "K is the number of a line of `cclib log DISK`, from 1 on";
+const ANY_NAME: Word = Word("NAME", Form::Optional, "The name of the unit");
+
+/// The number of a command of a library, which has at most so many records.
+pub(crate) const COMMANDS: Allowed = Allowed(
+    1,
+    1_073_741_824,
+    "K is the number of a line of `cclib log DISK`, from 1 on",
+);
 
 const BOTH_RULE: &str =
     "DISK and NAME go together; without both, the program comes on standard input: cclib image < FILE";
@@ -38,14 +45,14 @@ With DISK and NAME the image is that of a unit of a library, as it was stored:
 
 Its code lies from 0x00010000 on, the first values of its globals from 0x00200000 on.";
 
-// The same for `source`.
+// What a person reads below the words of `source`.
 const SOURCE_HELP: &str = "\
 What is printed is the source that was stored, to the byte.
 
 Example:
   cclib source units.disk quotient > quotient.c";
 
-// The same for `size`.
+// What a person reads below the words of `size`.
 const SIZE_HELP: &str = "\
 Without further words the program comes on standard input, or in files:
   cclib size -f main.c -f table.c
@@ -57,12 +64,7 @@ pub(crate) static SIZE: Row = Row {
     name: "size",
     whole: "cclib size",
     about: "Show how much memory an image takes: its code, its globals, and a stack that is enough",
-    words: &[
-        CHECKED,
-        Word("DISK", Form::Optional, "The file that has the library"),
-        Word("NAME", Form::Optional, "The name of the unit"),
-        FILE,
-    ],
+    words: &[CHECKED, ANY_DISK, ANY_NAME, FILE],
     help: SIZE_HELP,
 };
 
@@ -72,8 +74,8 @@ pub(crate) static IMAGE: Row = Row {
     about: "Compile the program and print its image as Intel HEX, or print that of a unit of a library",
     words: &[
         CHECKED,
-        Word("DISK", Form::Optional, "The file that has the library"),
-        Word("NAME", Form::Optional, "The name of the unit"),
+        ANY_DISK,
+        ANY_NAME,
         Word(
             "at",
             Form::Value("K"),
@@ -109,13 +111,13 @@ pub struct Wanted {
     pub name: String,
     /// Which part is wanted.
     pub part: Part,
-    /// The number of the command that stored it, if that is asked for in place of what the library has now.
+    /// The number of the command that stored the wanted unit; `None` for the unit that the library has now.
     pub at: Option<u64>,
 }
 
 // The number of the command that is asked for, if one is.
 fn at_of(given: &ArgMatches<'_>) -> Result<Option<u64>, Refused> {
-    number_if_given(given, "at", 1, MOST_COMMANDS, AT_RULE)
+    number_if_given(given, "at", COMMANDS)
 }
 
 // A part of the unit that the words name.
@@ -171,7 +173,8 @@ pub(crate) fn source_of(alloc: Global, given: &ArgMatches<'_>) -> Result<Work, R
     wanted_of(alloc, given, Part::Source, at)
 }
 
-/// What `size` asks for: what the image of a unit takes if DISK is given, else a task for a program.
+/// What `size` asks for: how much memory the image of a unit takes if DISK is given, else a task for a
+/// program.
 pub(crate) fn size_of(alloc: Global, given: &ArgMatches<'_>) -> Result<Work, Refused>
     ensures { IfOk result IsAllowed }
 {

@@ -5,16 +5,14 @@ ghost use Rattle.cc_command_line.specs.Work.{IsAllowed};
 
 use crate::command_line::Work;
 use crate::files::{EMPTY_RULE, FILE};
-use crate::given::{INPUT, STEPS, input_of, number_of, steps_of, text_if_given};
+use crate::given::{Allowed, INPUT, STEPS, input_of, number_of, steps_of, text_if_given};
 use crate::refused::Refused;
 use crate::row::{Form, Row, Word};
 use clap::ArgMatches;
 use std::alloc::Global;
 
-/// A trace keeps at most this many things.
-const MOST_LAST: u64 = 1_000_000;
-
-const LAST_RULE: &str = "N is a decimal number from 1 to 1000000";
+/// How many things a trace keeps.
+const LAST: Allowed = Allowed(1, 1_000_000, "N is a decimal number from 1 to 1000000");
 
 const BOTH_RULE: &str = "the input comes as WORDs or by --lines, and not by both";
 
@@ -52,7 +50,7 @@ pub(crate) static COVER: Row = Row {
     help: "The program comes on standard input: cclib cover 1000 < examples/quotient.c",
 };
 
-/// A run. The newest things that it does are wanted.
+/// A run to be traced: the newest things that it does are printed.
 #[derive(Drop)]
 pub struct Traced {
     /// How many steps the run takes at most.
@@ -63,7 +61,7 @@ pub struct Traced {
     pub last: u32,
 }
 
-/// Runs. How often they reach each line is wanted.
+/// Runs that count how often each line is reached.
 #[derive(Drop)]
 pub struct Covered {
     /// How many steps each run takes at most.
@@ -78,7 +76,7 @@ pub struct Covered {
 fn last_of(given: &ArgMatches<'_>) -> Result<u32, Refused>
     ensures { IfOk result (λ last. (1 ≤ last) × (last ≤ 1000000)) }
 {
-    match number_of(given, "last", 1, MOST_LAST, LAST_RULE) {
+    match number_of(given, "last", LAST) {
         Ok(last) => Ok(last as u32),
         Err(refused) => Err(refused),
     }

@@ -1,4 +1,4 @@
--- One more name, and the audit's result for its unit.
+-- What is known about the audited names after one more name.
 use Rattle.std.proofs.Common.{◌≡◌, ℕ, ◌+◌, ◌<◌, List, [], ◌∷◌, ◌++◌, length, take, get_or, sym, ap, subst, ◌∙◌, append_assoc, append-nil}
 use Rattle.std.proofs.lemmas.List.{take_more}
 use Rattle.cc_link.specs.declared.audit_answer.Audit.{Audit}
@@ -30,7 +30,7 @@ left_out_push units (n ∷ names) [] name audit all = absurd all
 left_out_push units (n ∷ names) (a ∷ audits) name audit all =
     ap (λ l. if_left_out n a ++ l) (left_out_push units names audits name audit all.1) ∙ sym (append_assoc (if_left_out n a) (left_out_of names audits) (if_left_out name audit))
 
--- one more name
+-- if one more name is put according to the audit of its unit, the names so far are judged
 pub judged_more : (units : Units) (names : List (List ℕ)) (i : ℕ) (name : List ℕ) (audit : Audit) (old new : Judged) → i < length names → name ≡ get_or names i name → IsAuditOf units name audit
     → new.confirmed.items ≡ old.confirmed.items ++ if_confirmed name audit → new.left_out.items ≡ old.left_out.items ++ if_left_out name audit
     → IsJudged units (take i names) old → IsJudged units (take (i + 1) names) new

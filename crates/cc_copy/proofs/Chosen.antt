@@ -1,4 +1,4 @@
--- Which units are chosen: those of the names so far.
+-- The units chosen are those of the names so far.
 use Rattle.std.proofs.Common.{◌≡◌, ℕ, ◌+◌, ◌<◌, List, ◌++◌, length, take, drop, get_or, IsTrue, Bool, true, false, ◌||◌, refl, sym, ap, ◌∙◌, cond, Option, Some, None}
 use Rattle.std.specs.Prelude.{if◌then◌else◌, is_some, Err, Ok}
 use Rattle.std.specs.List.{list_any}
@@ -39,7 +39,7 @@ by_tie units so_far true q name unit found e is before =
     sym is ∙ (ap (map.get units) (sym same) ∙ sym (ap (λ (b : Bool). if b then map.get units q else None) (or_true so_far)))
 by_tie units so_far false q name unit found e is before = before ∙ sym (ap (λ (b : Bool). if b then map.get units q else None) (or_none so_far))
 
--- if the chosen map has a unit with the name already, that unit is the map's
+-- if the chosen map has a unit under the name already, that unit is the map's
 again : (units : Units) (so_far tie : Bool) (q name : List ℕ) (unit : StoredUnit) (found : Option StoredUnit) → bytes_eq q name ≡ tie → map.get units name ≡ Some unit
     → (tie ≡ true → is_some found ≡ true) → Chosen units so_far q found → Chosen units (so_far || tie) q found
 again units true true q name unit found e is has before = before
@@ -58,7 +58,7 @@ step units chosen so_far q name unit false e is before =
     ∙ (map.get-insert nat_list_cmp_total chosen name unit q
     ∙ (ap (λ (b : Bool). cond b (Some unit) (map.get chosen q)) (is_eq-slice_cmp q name) ∙ by_tie units so_far (bytes_eq q name) q name unit (map.get chosen q) refl is before))
 
--- one more name
+-- if the unit of one more name is added, the units chosen are still those of the names so far
 pub one_more : (units chosen new : Units) (names : List (List ℕ)) (i : ℕ) (q name : List ℕ) (unit : StoredUnit) → i < length names → name ≡ get_or names i name → new ≡ after chosen (Add name unit)
     → map.get units name ≡ Some unit → Chosen units (is_among (take i names) q) q (map.get chosen q) → Chosen units (is_among (take (i + 1) names) q) q (map.get new q)
 one_more units chosen new names i q name unit within at is there before =
@@ -67,7 +67,7 @@ one_more units chosen new names i q name unit within at is there before =
     ∙ (step units chosen (is_among (take i names) q) q name unit (map.contains_key chosen name) refl there before
     ∙ ap (λ (b : Bool). if b then map.get units q else None) (sym more))
 
--- a name that has a unit
+-- if a name has a unit, the map contains the name
 pub has : (units : Units) (name : List ℕ) (unit : StoredUnit) → map.get units name ≡ Some unit → IsTrue (map.contains_key units name)
 has units name unit e = ap is_some e
 

@@ -14,7 +14,7 @@ use Rattle.cc_library.proofs.Opening.{has_header}
 use Rattle.cc_copy.specs.Copy.{CopyFaults, room_for}
 use Rattle.cc_copy.specs.internal.Writing.{WriteFaults}
 
--- the commit was refused
+-- a refusal of the journal's commit is a reason why the units were not written
 pub commit_refused : (area : ℕ) (units : Units) (bodies : List (List ℕ)) (before after : ℕ) (closed : Bool) (fault : JournalFault) → bodies ≡ compacted units → closed ≡ false
     → CommitAnswers {T = Unit {0}} closed area bodies before after (Err fault) → WriteFaults area units before after (fault_of fault)
 commit_refused area units bodies before after closed journal.Full is usable why = (subst (λ (l : List (List ℕ)). area < room_of l) is why.1, why.2)
@@ -24,7 +24,7 @@ commit_refused area units bodies before after closed journal.Damaged is usable w
 commit_refused area units bodies before after closed journal.NotALibrary is usable why = absurd why
 commit_refused area units bodies before after closed journal.OutOfMemory is usable why = why.2
 
--- the disk was not formatted
+-- if the disk could not be formatted, the fault is one that a copy may report
 pub format_refused : (honest : Bool) (size area : ℕ) (units : Units) (before after : ℕ) (fault : JournalFault) → room_for units ≤ area
     → FormatAnswers {T = Unit {0}} size area before after (Err fault) → CopyFaults honest size area units before after (fault_of fault)
 format_refused honest size area units before after journal.Full fits why = (λ h is. absurd (why.0 is), why.1)
@@ -34,7 +34,7 @@ format_refused honest size area units before after journal.Damaged fits why = ab
 format_refused honest size area units before after journal.NotALibrary fits why = absurd why
 format_refused honest size area units before after journal.OutOfMemory fits why = absurd why
 
--- the new journal was not opened
+-- if the new journal could not be opened, the fault is one that a copy may report
 pub open_refused : (honest : Bool) (seen : List ℕ) (size area : ℕ) (units : Units) (begin before after : ℕ) (fault : JournalFault) → room_for units ≤ area → before ≡ begin
     → (IsTrue honest → HoldsAlone seen area []) → OpenFaults honest seen before after fault → CopyFaults honest size area units begin after (fault_of fault)
 open_refused honest seen size area units begin before after journal.DiskFault fits same holds why = (fits, why ∙ ap (λ n. n + 1) same)
@@ -44,7 +44,7 @@ open_refused honest seen size area units begin before after journal.OutOfMemory 
 open_refused honest seen size area units begin before after journal.Full fits same holds why = absurd why
 open_refused honest seen size area units begin before after journal.Closed fits same holds why = absurd why
 
--- the units were not written
+-- if the units could not be written, the fault is one that a copy may report
 pub write_refused : (honest : Bool) (size area there : ℕ) (units : Units) (begin before after : ℕ) (fault : LibraryFault) → room_for units ≤ area → before ≡ begin → (IsTrue honest → there ≡ area)
     → WriteFaults there units before after fault → CopyFaults honest size area units begin after fault
 write_refused honest size area there units begin before after Full fits same is why = (λ h _. subst (λ (n : ℕ). n < room_for units) (is h) why.0, why.1 ∙ same)

@@ -16,20 +16,20 @@ module _ {X : Type 0} (f : X → List ℕ) where
   long [] = refl
   long (text ∷ texts) = let e = long texts in omega (arith, e)
 
-  -- one more text
+  -- the names of one more text are the earlier ones followed by its own
   pub names_more : (texts : List X) (i : ℕ) (text : X) → i < length texts → text ≡ get_or texts i text → map f (take (i + 1) texts) ≡ map f (take i texts) ++ f text ∷ []
   names_more texts i text within is =
       let more : take i texts ++ text ∷ [] ≡ take (i + 1) texts = ap (λ x. take i texts ++ x ∷ []) is ∙ sym (take_more texts i text within) in
       sym (ap (map f) more) ∙ map-append f (take i texts) (text ∷ [])
 
-  -- one more text, which is a name
+  -- if the texts so far are names, and so is the next one, all of them are names
   pub all_more : (texts : List X) (i : ℕ) (text : X) → i < length texts → text ≡ get_or texts i text → IsTrue (is_name (f text)) → All (λ name. IsTrue (is_name name)) (map f (take i texts))
       → All (λ name. IsTrue (is_name name)) (map f (take (i + 1) texts))
   all_more texts i text within is one all =
       let P : List ℕ → Type 0 = λ name. IsTrue (is_name name) in
       subst (All P) (sym (names_more texts i text within is)) (All-push P (map f (take i texts)) (f text) all one)
 
-  -- a text that is no name
+  -- if the text at an index is not a name, `IsNoName` holds of that index
   pub no_name : (texts : List X) (i : ℕ) (text : X) → i < length texts → text ≡ get_or texts i text → is_name (f text) ≡ false → IsNoName (map f texts) i
   no_name texts i text within is none =
       let same : get_or (map f texts) i [] ≡ f text = get_or-map f texts i text [] within ∙ ap f (sym is) in
@@ -49,7 +49,8 @@ not_taken units names OutOfMemory all why = tt
 not_taken units names BadName all why = absurd why
 not_taken units names (Library f) all why = absurd why
 
--- why nothing is selected from the map to which the disk recovers is why nothing is selected from the disk
+-- a reason why nothing is selected from the map to which the disk recovers is a reason why nothing is
+-- selected from the disk
 pub not_selected_on : (honest : Bool) (seen : List ℕ) (before after : ℕ) (names : List (List ℕ)) (units : Units) (fault : PartFault) → after ≡ before → (IsTrue honest → Recovers seen units) → IsNotSelectedIn units names fault
     → IsNotSelectedOn honest seen before after names fault
 not_selected_on honest seen before after names units BadName same recovers why = (same, λ h. (units, recovers h, why))

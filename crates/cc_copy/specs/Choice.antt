@@ -17,7 +17,7 @@ use Rattle.cc_copy.specs.declared.choosing.ChooseFault.TheVariants as fault
 abbrev pub is_among : (names : List (List ℕ)) (name : List ℕ) → Bool
 is_among names name = list_any (bytes_eq name) names
 
--- each of the names has a unit in the map, and the chosen units are these and no others
+-- each of the names has a unit in the map, and the chosen units are exactly these
 pub record IsChosen (units : Units) (names : List (List ℕ)) (copied : Units) : Type 0 where
   pub there : All (λ name. IsTrue (contains_key units name)) names
   pub chosen : (name : List ℕ) → get copied name ≡ (if is_among names name then get units name else None)
@@ -33,26 +33,26 @@ IsNotChosen units names fault.OutOfMemory = Unit {0}
 abbrev pub IsAuditOf : Units → (name : List ℕ) → Audit → Type 0
 IsAuditOf units name audit = (unit : StoredUnit) × (get units name ≡ Some unit) × AuditSays unit.source unit.certificate unit.image audit
 
--- the results of an audit of the units with these names, one for each name
+-- the results of audits of the units with these names, one for each name
 abbrev pub AreAudits : Units → (names : List (List ℕ)) → List Audit → Type 0
 AreAudits units [] [] = Unit {0}
 AreAudits units [] (audit ∷ audits) = ⊥
 AreAudits units (name ∷ names) [] = ⊥
 AreAudits units (name ∷ names) (audit ∷ audits) = IsAuditOf units name audit × AreAudits units names audits
 
--- a name whose unit is confirmed
+-- the name, if its unit is confirmed
 abbrev pub if_confirmed : (name : List ℕ) → Audit → List (List ℕ)
 if_confirmed name Confirmed = name ∷ []
 if_confirmed name NoCertificate = []
 if_confirmed name Unconfirmed = []
 
--- a name whose unit is not confirmed
+-- the name with the audit's result, if its unit is not confirmed
 abbrev pub if_left_out : (name : List ℕ) → Audit → List LeftOut
 if_left_out name Confirmed = []
 if_left_out name NoCertificate = record { name = name; audit = NoCertificate } ∷ []
 if_left_out name Unconfirmed = record { name = name; audit = Unconfirmed } ∷ []
 
--- those of these names whose units are confirmed, in their order
+-- those of these names whose units are confirmed, in order
 abbrev pub confirmed_of : (names : List (List ℕ)) → List Audit → List (List ℕ)
 confirmed_of [] audits = []
 confirmed_of (name ∷ names) [] = []

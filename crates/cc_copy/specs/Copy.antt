@@ -6,7 +6,7 @@ use Rattle.cc_library.specs.declared.fault.LibraryFault.TheVariants.{Exists, Abs
 use Rattle.cc_library.specs.Apply.{Units}
 use Rattle.cc_library.specs.Compact.{compacted}
 
--- the bytes of an area that the records of these units take, one Add for each name
+-- how many bytes of an area the records of these units take, with one Add for each name
 abbrev pub room_for : Units → ℕ
 room_for units = room_of (compacted units)
 
@@ -22,7 +22,7 @@ CopyFaults honest size area units before after Exists = ⊥
 CopyFaults honest size area units before after Absent = ⊥
 CopyFaults honest size area units before after Closed = ⊥
 
--- the least area of 64 bytes or more that has room for these units; none exactly if the greatest has no room
+-- the least area of 64 bytes or more that has room for these units; none exactly if even the greatest area does not have enough room
 abbrev pub IsLeastArea : Units → Option ℕ → Type 0
 IsLeastArea units None = 2 ^ 30 < room_for units
 IsLeastArea units (Some area) = (64 ≤ area) × (area ≤ 2 ^ 30) × (room_for units ≤ area) × ((less : ℕ) → 64 ≤ less → less < area → less < room_for units)

@@ -4,5 +4,5 @@ pub mod Copy
 pub mod Choice
 -- Which units of a disk are selected.
 pub mod Selected
--- What only private contracts use.
+-- Definitions that only private contracts use.
 pub mod internal

@@ -10,7 +10,7 @@ use Rattle.cc_copy.specs.declared.choosing.ChooseFault.TheVariants as fault
 use Rattle.cc_copy.specs.declared.judging.Selection.{Selection}
 use Rattle.cc_copy.specs.Choice.{IsChosen, IsConfirmed, IsNotChosen}
 
--- the units of these names; all, if no name is given
+-- the units with these names; all units, if no name is given
 abbrev pub AreOf : Units → (names : List (List ℕ)) → (taken : Units) → Type 0
 AreOf units [] taken = taken ≡ units
 AreOf units (name ∷ names) taken = IsChosen units (name ∷ names) taken
@@ -20,11 +20,11 @@ abbrev pub IsSelection : (confirmed : Bool) → (taken : Units) → Selection �
 IsSelection false taken selection = (selection.units ≡ taken) × (selection.left_out.items ≡ [])
 IsSelection true taken selection = IsConfirmed taken selection
 
--- of the units with these names in a map, all, or those that an audit confirms
+-- all of the units with these names in a map, or those of them that an audit confirms
 abbrev pub IsSelectedIn : Units → (names : List (List ℕ)) (confirmed : Bool) → Selection → Type 0
 IsSelectedIn units names confirmed selection = (taken : Units) × AreOf units names taken × IsSelection confirmed taken selection
 
--- the name with this number is not a name
+-- the text with this index is not a name
 abbrev pub IsNoName : (names : List (List ℕ)) (number : ℕ) → Type 0
 IsNoName names number = (number < length names) × (is_name (get_or names number []) ≡ false)
 
@@ -40,7 +40,7 @@ IsNotSelectedIn units names OutOfMemory = Unit {0}
 abbrev pub IsSelectedOn : (seen : List ℕ) (names : List (List ℕ)) (confirmed : Bool) → Selection → Type 0
 IsSelectedOn seen names confirmed selection = (units : Units) × Recovers seen units × IsSelectedIn units names confirmed selection
 
--- why no units are selected: the library is not opened; or it is, and none are selected from the map to which the disk recovers
+-- why no units are selected: the library is not opened; or it is, and no units are selected from the map to which the disk recovers
 abbrev pub IsNotSelectedOn : (honest : Bool) (seen : List ℕ) (before after : ℕ) (names : List (List ℕ)) → PartFault → Type 0
 IsNotSelectedOn honest seen before after names (Library f) = OpenFaults honest seen before after f
 IsNotSelectedOn honest seen before after names BadName = (after ≡ before) × (IsTrue honest → (units : Units) × Recovers seen units × IsNotSelectedIn units names BadName)

@@ -1,15 +1,10 @@
 // Which units are copied.
 
-ghost use Rattle.std.specs.Prelude.{◌≡◌, Some, IfOk, IfErr, OnOk};
-ghost use Rattle.std.specs.Arc.{arc_value};
-ghost use Rattle.cc_library.specs.Apply.{after};
-ghost use Rattle.cc_library.specs.declared.command.Change.TheVariants as command;
+ghost use Rattle.std.specs.Prelude.{IfOk, IfErr};
 ghost use Rattle.cc_copy.specs.Choice.{IsChosen, IsNotChosen};
 
-use cc_library::{LibraryCommand, Name, SharedUnit, UnitMap};
-use cc_unit::StoredUnit;
-use std::alloc::{AllocError, Global};
-use std::sync::Arc;
+use cc_library::{Name, UnitMap};
+use std::alloc::Global;
 
 /// Why no units were chosen.
 #[derive(Clone, Copy, Debug, Drop)]
@@ -20,20 +15,9 @@ pub enum ChooseFault {
     OutOfMemory,
 }
 
-// Adds this unit with this name to a map, if the map has no unit with the name.
-fn add(chosen: &mut UnitMap, name: &Name, unit: &Arc<StoredUnit>) -> Result<(), AllocError>
-    ensures { OnOk result (chosen.new ≡ after chosen.old (command.Add name.now (arc_value unit.now))) }
-{
-    let unit = SharedUnit::new(Arc::try_clone(unit)?);
-    let command = LibraryCommand::Add(name.clone()?, unit);
-    let answer = chosen.apply(&command);
-    drop(command);
-    answer
-}
-
 /// The units with these names in a map; each name must have one.
 ///
-/// Refusals: 32 with the index of the first name that has none, 40 if memory ran out.
+/// Refusals: 32, with the index of the first name that has no unit; 40 if memory ran out.
 pub fn choose(alloc: Global, units: &UnitMap, names: &[Name]) -> Result<UnitMap, ChooseFault>
     ensures chosen { IfOk result (IsChosen units.now names.now) }
     ensures refused { IfErr result (IsNotChosen units.now names.now) }
@@ -45,7 +29,7 @@ pub fn choose(alloc: Global, units: &UnitMap, names: &[Name]) -> Result<UnitMap,
             drop(chosen);
             return Err(ChooseFault::Absent(i));
         };
-        match add(&mut chosen, name, unit) {
+        match chosen.add(name, unit) {
             Ok(()) => {}
             Err(_) => {
                 drop(chosen);

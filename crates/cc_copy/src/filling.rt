@@ -1,4 +1,4 @@
-// A new library with the units of a map: an empty journal, and then one commit with one Add for each name.
+// Makes a new library with the units of a map: an empty journal, and then one commit with one Add for each name.
 
 ghost use Rattle.std.specs.Prelude.{◌≡◌, ◌≤◌, ◌^◌, ℕ, List, false, IsTrue, IfErr, IsErrOf, OnOk};
 ghost use Rattle.cc_journal.specs.Format.{AllHold, room_of};
@@ -12,10 +12,10 @@ use cc_journal::{Log, format};
 use cc_library::{LibraryFault, UnitMap};
 use std::alloc::Global;
 
-/// The least number of bytes of an area.
+/// An area has at least this many bytes.
 const LEAST: usize = 64;
 
-/// The greatest number of bytes of an area.
+/// An area has at most this many bytes.
 const MOST: usize = 1_073_741_824;
 
 // Writes one Add for each name as the records of a log.
@@ -44,7 +44,7 @@ fn write_units<D: Disk>(
 }
 
 /// Makes a new library with these units on a disk, with areas of `area` bytes. The disk is handed back. After Ok, every crash
-/// leaves these units and no others.
+/// leaves exactly these units.
 ///
 /// Refusals: 34 if the units don't fit in such an area, or two such areas don't fit on the disk, which is then as before; 35 if
 /// the device failed; 40 if memory ran out.
@@ -56,12 +56,12 @@ pub fn copy_units<D: Disk + Drop>(
 ) -> (Result<(), LibraryFault>, D)
     requires least { 64 ≤ area }
     requires most { area ≤ 2 ^ 30 }
-    // On an honest disk every image has one Add for each name in areas of this many bytes, and so it recovers to these units.
+    // On an honest disk every image has one Add for each name in areas of `area` bytes, and so it recovers to these units.
     ensures records { OnOk result.0 (IsTrue D.honest → AllHold (D.may_leave result.1) area (compacted units.now)) }
     ensures copied { OnOk result.0 (IsTrue D.honest → (image : List ℕ) → D.may_leave result.1 image → RecoversAlone image units.now) }
     ensures fits { OnOk result.0 (room_of (compacted units.now) ≤ area) }
     ensures refused { IfErr result.0 (λ fault. CopyFaults D.honest (D.size disk) area units.now (D.failures disk) (D.failures result.1) fault) }
-    // An honest disk that has no room is not touched.
+    // An honest disk that does not have enough room is not touched.
     ensures untouched { IsErrOf result.0 LibraryFault.Full → IsTrue D.honest → result.1 ≡ disk }
 {
     if !units.fits(area as usize) {
@@ -81,7 +81,7 @@ pub fn copy_units<D: Disk + Drop>(
     }
 }
 
-/// The least area that has room for these units; None if the greatest has no room for them.
+/// The least area that has room for these units; None if even the greatest area does not have enough room.
 pub fn least_area(units: &UnitMap) -> Option<usize>
     ensures { IsLeastArea units.now result }
 {

@@ -58,8 +58,7 @@ fn put(judged: &mut Judged, name: &Name, audit: Audit) -> Result<(), AllocError>
     Ok(())
 }
 
-// Which of the units with these names an audit confirms, in the order of the names. Each name has a unit. A newline goes to
-// `seen` for each.
+// Audits the units with these names, in the order of the names. Each name has a unit. A newline goes to `seen` for each unit.
 fn judge<S: Write>(
     alloc: Global,
     units: &UnitMap,
@@ -86,7 +85,7 @@ fn judge<S: Write>(
 }
 
 /// The units of a map that an audit confirms, and those that are left out, in the order of their names. A newline goes to `seen`
-/// for each unit that was audited, so that `seen` can count them. The error is lack of memory.
+/// for each unit that was audited, so that `seen` can count them. Err: memory ran out.
 pub fn confirm<S: Write>(
     alloc: Global,
     units: &UnitMap,

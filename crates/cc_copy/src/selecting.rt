@@ -14,7 +14,7 @@ use cc_tasks::{PartFault, explain_absent};
 use std::alloc::{AllocError, Global};
 use std::io::Write;
 
-// The names that are given.
+// The names that these texts are.
 fn names_in(alloc: Global, texts: &[String]) -> Result<Vec<Name>, PartFault>
     ensures names { IfOk result (λ names. names.items ≡ map string_bytes texts.now) }
     ensures all { OnOk result (All (λ name. IsTrue (is_name name)) (map string_bytes texts.now)) }
@@ -37,7 +37,7 @@ fn names_in(alloc: Global, texts: &[String]) -> Result<Vec<Name>, PartFault>
     Ok(names)
 }
 
-// The units of these names, or all. For the first name that has no unit, a near one is reported.
+// The units with these names, or all units. For the first name that has no unit, a similar name is shown.
 fn taken<E: Write>(
     alloc: Global,
     units: &UnitMap,
@@ -85,7 +85,7 @@ fn selection<S: Write>(
     selection
 }
 
-// What is selected from a map.
+// Selects units from a map.
 fn selected<S: Write, E: Write>(
     alloc: Global,
     units: &UnitMap,
@@ -115,11 +115,11 @@ fn selected<S: Write, E: Write>(
     }
 }
 
-/// The units of these names in the library on a disk, or all of them if no name is given; all of these, or those that an audit
-/// confirms. The disk is handed back, and nothing is written to it. A newline goes to `seen` for each unit that was audited, and
-/// for a name that no unit has, a near one is written to `explanations`.
+/// The units with these names in the library on a disk, or all its units if no name is given; then all of these, or those that
+/// an audit confirms. The disk is handed back, and nothing is written to it. A newline goes to `seen` for each unit that was
+/// audited, and for a name that no unit has, a similar name is written to `explanations`.
 ///
-/// Refusals: first those of `Library::open`, 35, 38, 37 and 40; then 33 if one of the texts is no name; then 32 if one of the
+/// Refusals: first those of `Library::open`, 35, 38, 37 and 40; then 33 if one of the texts is not a name; then 32 if one of the
 /// names has no unit; 40 if memory ran out.
 pub fn selection_on<D: Disk + Drop, S: Write, E: Write>(
     alloc: Global,

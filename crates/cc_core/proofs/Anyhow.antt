@@ -20,7 +20,8 @@ module _ {P : Type 0} (rules : Rules P) where
   sound_anyhow first events new started run =
       run_IsSound rules IsAnyPiece is_any_unit any_lawful first events new (beginning-IsSound rules IsAnyPiece is_any_unit any_lawful first started (λ name unit at. tt)) run
 
-  -- a run whose pieces keep something is also a run whose pieces need not keep anything
+  -- if an event takes a turn with pieces that keep `keeps`, it takes the same turn with pieces that need not
+  -- keep anything
   turn_anyhow : (keeps : P → Type 0) (old : Contents P) (event : Event P) (new : Contents P) → Turn rules keeps old event new → Turn rules IsAnyPiece old event new
   turn_anyhow keeps old event new (inl step) = inl (step.0, step.1, step.2, λ worker piece is. tt)
   turn_anyhow keeps old event new (inr stays) = inr stays

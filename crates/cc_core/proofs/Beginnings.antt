@@ -1,5 +1,5 @@
--- What the records of an opened disk show: the fields of its header, its commands in their order, and a beginning. The reason: a body is
--- spelled by one command, so the commands that were read in turn are those that lead to the map.
+-- What an opened disk shows: the fields of its header, the commands of its records in order, and that a run can begin there. The reason:
+-- a body spells only one command, so the commands read from the bodies are those that lead to the map.
 use Rattle.std.proofs.Common.{◌≡◌, inl, inr, ℕ, ◌+◌, List, [], ◌∷◌, ◌++◌, length, get_or, take, drop, true, Some, refl, sym, ap, subst, ◌∙◌, arith, append_assoc}
 use Rattle.std.specs.Prelude.{slice_get}
 use Rattle.std.specs.Int.{w32, from_le_bytes}
@@ -29,7 +29,7 @@ use Rattle.cc_core.proofs.Lists.{slice_get-push}
 
 -- ---- the header
 
--- the bytes that were read first give the size of an area, and the area byte
+-- if an image holds records, its first 16 bytes give the size of an area and the area byte
 pub header_read : (image : List ℕ) (area : ℕ) (bodies : List (List ℕ)) (h : HoldsRecords image area bodies) (prefix : List ℕ) → prefix ≡ take 16 (drop 0 image)
     → (area ≡ from_le_bytes w32 (get_or prefix 8 0 ∷ get_or prefix 9 0 ∷ get_or prefix 10 0 ∷ get_or prefix 11 0 ∷ [])) × (h.area_byte ≡ get_or prefix 0 0)
 header_read image area bodies h prefix read =
@@ -57,14 +57,14 @@ same_commands (body ∷ bodies) (x ∷ xs) (y ∷ ys) p q =
     let others : xs ≡ ys = same_commands bodies xs ys p.1 q.1 in
     ap (λ (z : LibraryCommand). z ∷ xs) first ∙ ap (λ (zs : List LibraryCommand). y ∷ zs) others
 
--- the order of the records leads to the map that they represent
+-- if records represent a map, and an order has their commands, the order is accepted and leads to this map
 pub order_leads : (bodies : List (List ℕ)) (library : Units) (order : List Numbered) (upcoming : SequenceNumber) → StandFor bodies library → IsOrderOf bodies order upcoming
     → (library ≡ library_of (commands order)) × AreAccepted empty (commands order)
 order_leads bodies library order upcoming stand o =
     let same = same_commands bodies stand.commands (commands order) stand.spelled o.spelled in
     (stand.map_is ∙ ap library_of same, subst (AreAccepted empty) same stand.accepted)
 
--- the bodies so far were read, and the rest (`behind`) are left
+-- the order has the commands of the bodies read so far, numbered from 0 on; the bodies `behind` have not been read yet
 pub record IsReadTo (bodies behind : List (List ℕ)) (order : List Numbered) (upcoming : ℕ) : Type 0 where
   pub leads : (rest : List LibraryCommand) → AreSpelled behind rest → AreSpelled bodies (commands order ++ rest)
   pub counted : (k : ℕ) (a : Numbered) → slice_get order k ≡ Some a → a.number.value ≡ k
@@ -100,7 +100,7 @@ read_all bodies order upcoming r = record {
 
 -- ---- refusals
 
--- if bytes recover to a map, the only refusal is lack of memory
+-- if an image recovers to a map, opening it can only fail with `OutOfMemory`
 pub only_memory : (image : List ℕ) (units : Units) → Recovers image units → (fault : LibraryFault) → OpenFaults true image 0 0 fault → fault ≡ OutOfMemory
 only_memory image units r DiskFault o = absurd (omega (arith, o))
 only_memory image units r NotALibrary o = absurd (o.1 refl r.area (has_header image r.area r.bodies r.holds))
@@ -111,13 +111,13 @@ only_memory image units r Absent o = absurd o
 only_memory image units r Full o = absurd o
 only_memory image units r Closed o = absurd o
 
--- a disk that counts no failure does not fail
+-- opening a disk on which no call fails does not end with `DiskFault`
 pub no_failure : (image : List ℕ) (fault : LibraryFault) → OpenFaults true image 0 0 fault → fault ≡ DiskFault → ⊥
 no_failure image fault o is = let no = subst (OpenFaults true image 0 0) is o in absurd (omega (arith, no))
 
 -- ---- a beginning
 
--- the order at the beginning is that of whichever records the bytes hold
+-- if the bytes hold these records, the order of the opened disk has their commands
 pub order_of : (image : List ℕ) (o : Opened) → IsOpenedAt image o → (area : ℕ) (bodies : List (List ℕ)) → HoldsRecords image area bodies → IsOrderOf bodies o.order o.upcoming
 order_of image o at area bodies h =
     let there : HoldsRecords image o.store.area at.bodies = subst (λ (l : List ℕ). HoldsRecords l o.store.area at.bodies) at.bytes at.holds in

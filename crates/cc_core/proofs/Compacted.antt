@@ -1,5 +1,5 @@
 -- The shortest journal of a map represents the map, and never takes more room than any other journal that does. The proof goes by
--- entries: each entry has a name and a unit that some command had.
+-- entries: the name and the unit of each entry come from some command.
 use Rattle.std.proofs.Common.{◌≡◌, ℕ, ◌≤◌, Bool, true, false, cond, List, [], ◌∷◌, sym, subst, arith}
 use Rattle.std.specs.Prelude.{Ok, Err}
 use Rattle.std.specs.declared.cmp.Ordering.{Ordering}
@@ -21,7 +21,7 @@ use Rattle.cc_library.proofs.Compacting.{adds_stand}
 use Rattle.cc_library.proofs.Room.{Entry, R, compacted_least, entries-remove}
 use Rattle.cc_library.proofs.Tables.{no_entries}
 
--- each entry is a name and a possible unit
+-- each entry has a possible name and a possible unit
 abbrev AreRight : List Entry → Type 0
 AreRight es = AllByRecursion (λ (e : Entry). IsCommand (Add e.0 e.1)) es
 
@@ -44,7 +44,7 @@ where_right p (e ∷ es) all = at (where_right p es all.1) (p e.0)
 
 -- ---- commands
 
--- the entries of a map are right
+-- each entry of the map has a possible name and a possible unit
 abbrev IsRight : Units → Type 0
 IsRight units = AreRight (map.entries units)
 

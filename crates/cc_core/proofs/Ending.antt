@@ -1,5 +1,5 @@
 -- What each image of the disk recovers to, by phase, and what a recovery keeps. The reason: in each phase every image holds records that
--- represent the order, or the order without its last command, which was then not acknowledged.
+-- represent the order, or the order without its last command; in the second case that command was not acknowledged.
 use Rattle.std.proofs.Common.{◌≡◌, ◌≢◌, ◌⊎◌, inl, inr, ℕ, ◌+◌, ◌<◌, ◌≤◌, List, [], ◌∷◌, ◌++◌, length, take, refl, sym, ap, subst, ◌∙◌, arith, All, Contains}
 use Rattle.std.specs.Prelude.{IsOk}
 use Rattle.std.specs.FinMap.{empty}
@@ -91,7 +91,7 @@ IsKept (Rewriting commit due) store order acknowledged = HoldsRewrite commit due
 IsKept (Failed failed) store order acknowledged = HoldsEnds store order acknowledged
 IsKept Crashed store order acknowledged = HoldsCrash store order acknowledged
 
--- one more record represents one more command
+-- if one more record is added for an accepted command, the records represent the order with this command
 pub stand_more : (bodies : List (List ℕ)) (prefix : List Numbered) (numbered : Numbered) (order : List Numbered) → order ≡ prefix ++ numbered ∷ [] → StandFor bodies (library_of (commands prefix)) → IsCommand numbered.command
     → IsOk (apply (library_of (commands prefix)) numbered.command) → StandFor (bodies ++ body_of numbered.command ∷ []) (library_of (commands order))
 stand_more bodies prefix numbered order is stand spelled taken =
@@ -123,7 +123,7 @@ each_ends (Rewriting commit due) store order acknowledged k image now =
 each_ends (Failed failed) store order acknowledged k image now = k image now
 each_ends Crashed store order acknowledged k image now = subst (Ends store.area order acknowledged) (sym (k.alone image now)) k.ends
 
--- after each further step of a rewrite, what holds for the new phase holds
+-- if the disk holds what belongs to a step of a rewrite, then after the step it holds what belongs to the new phase
 pub rewrite_kept : (commit : Commit) (due : RewriteDue) (store : StoreState) (order acknowledged : List Numbered) → HoldsRewrite commit due store order
     → IsKept (phase_after commit due) (rewrite_stepped due commit store) order acknowledged
 rewrite_kept commit SyncAll store order acknowledged h = record {
@@ -150,7 +150,7 @@ rewrite_kept commit SyncArea store order acknowledged h = record {
   stand = h.stand_anew;
 }
 
--- so such an image survives
+-- if `Ends` holds for an image, and the acknowledged commands are in the order, the image survives
 pub ends_survives : (area : ℕ) (order acknowledged : List Numbered) (image : List ℕ) → AreRising order → AreRising acknowledged → All (Contains order) acknowledged → Ends area order acknowledged image
     → Survives image order acknowledged
 ends_survives area order acknowledged image rising rising_acked acked e = at e.known
@@ -177,7 +177,7 @@ ends_survives area order acknowledged image rising rising_acked acked e = at e.k
       recovers = holds_recovers image area e.bodies (library_of (commands lacks.prefix)) (holds_alone image area e.bodies e.held) lacks.stand;
     }
 
--- so the library that an image recovers to is right, if the order's library is right and so is the library of the order without
+-- if `Ends` holds for an image, the library that it recovers to is right, provided that the order's library is right, with and without
 -- its last command
 pub ends_right : (is_right : StoredUnit → Type 0) (area : ℕ) (order acknowledged : List Numbered) (image : List ℕ) → Ends area order acknowledged image → EachUnit is_right (library_of (commands order))
     → ((prefix : List Numbered) (last : Numbered) → order ≡ prefix ++ last ∷ [] → EachUnit is_right (library_of (commands prefix))) → (library : Units) → Recovers image library → EachUnit is_right library
@@ -189,13 +189,14 @@ ends_right is_right area order acknowledged image e whole before library recover
         subst (EachUnit is_right) (sym ((holds_recovers image area e.bodies (library_of (commands lacks.prefix)) (holds_alone image area e.bodies e.held) lacks.stand).alone library recovered))
         (before lacks.prefix lacks.last lacks.is)
 
--- if both lists of records represent one library and it is right, the library that an image recovers to is right
+-- if both lists of records represent the same right library, and an image holds one of the lists, the library that it recovers to is
+-- right
 pub one_right : (is_right : StoredUnit → Type 0) (area : ℕ) (bodies more : List (List ℕ)) (units : Units) → StandFor bodies units → StandFor more units → EachUnit is_right units
     → (image : List ℕ) → HoldsOneOf area bodies more image → (library : Units) → Recovers image library → EachUnit is_right library
 one_right is_right area bodies more units stand stand_anew each image (inl old) library recovered = subst (EachUnit is_right) (sym ((holds_recovers image area bodies units old stand).alone library recovered)) each
 one_right is_right area bodies more units stand stand_anew each image (inr new) library recovered = subst (EachUnit is_right) (sym ((holds_recovers image area more units new stand_anew).alone library recovered)) each
 
--- no command is in commit or has failed: the disk holds the whole order
+-- in this phase the disk holds the whole order, since no command is in commit or has failed
 abbrev pub IsWhole : Phase → Type 0
 IsWhole Idle = Unit {0}
 IsWhole (Committing client numbered due) = ⊥
@@ -203,7 +204,7 @@ IsWhole (Rewriting commit due) = Unit {0}
 IsWhole (Failed failed) = ⊥
 IsWhole Crashed = ⊥
 
--- so each image recovers to a right library, if the order's library is right
+-- in a phase in which the disk holds the whole order, each image recovers to a right library, if the order's library is right
 pub each_right : (is_right : StoredUnit → Type 0) (phase : Phase) (store : StoreState) (order acknowledged : List Numbered) → IsWhole phase → IsKept phase store order acknowledged
     → EachUnit is_right (library_of (commands order)) → (image : List ℕ) (library : Units) → IsImage store.cells image → Recovers image library → EachUnit is_right library
 each_right is_right Idle store order acknowledged w k each image library now =
@@ -222,7 +223,7 @@ pub kept_acked : (bodies : List (List ℕ)) (order acknowledged kept : List Numb
 kept_acked bodies order acknowledged kept library acked stand known longest =
     subst (λ (l : List Numbered). All (Contains l) acknowledged) (sym longest.prefix) (at known (cases_eq longest.count (length order)))
   where
-    -- a prefix that leads to this library is no longer than what is kept
+    -- a prefix that leads to this library is not longer than the one that is kept
     no_more : (n : ℕ) (prefix : List Numbered) → n ≤ length order → take n order ≡ prefix → StandFor bodies (library_of (commands prefix)) → longest.count < n → ⊥
     no_more n prefix within is prefix_stand less =
         longest.longest n less within (ap (λ (l : List Numbered). library_of (commands l)) is ∙ one_map empty bodies (library_of (commands prefix)) library prefix_stand stand)

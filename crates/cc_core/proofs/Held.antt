@@ -30,7 +30,7 @@ pub record HoldsIn (byte area : ℕ) (bodies : List (List ℕ)) (image : List �
 abbrev pub HoldsInOneOf : ℕ → ℕ → List (List ℕ) → List ℕ → List ℕ → Type 0
 HoldsInOneOf byte area bodies body image = HoldsIn byte area bodies image ⊎ HoldsIn byte area (bodies ++ body ∷ []) image
 
--- where an area begins: after the header, or after the first area
+-- if `b` is 0 or 1, `b * n` is at most `n`
 part_most : (b n : ℕ) → b < 2 → b * n ≤ n
 part_most zero n lt = omega arith
 part_most (suc zero) n lt = omega arith
@@ -53,7 +53,7 @@ first_of-header b c area same = ap first_of same
 pub begins_behind : (b byte area n : ℕ) → b ≡ byte → n ≡ b % 2 * area → area_begin byte area ≡ 16 + n
 begins_behind b byte area n same is = ap (λ (k : ℕ). 16 + k) (ap (λ (k : ℕ). k % 2 * area) (sym same) ∙ sym is)
 
--- if an image holds records under this area byte, its own area byte is that one
+-- if an image holds records in the area that `byte` names, its area byte is `byte`
 pub byte_of : (byte area : ℕ) (bodies : List (List ℕ)) (image : List ℕ) (a : HoldsIn byte area bodies image) → a.holds.area_byte ≡ byte
 byte_of byte area bodies image a =
     let h = a.holds in
@@ -84,7 +84,7 @@ written_header place bytes old new prefix le within is same =
     ∙ take-append-le 16 (take place old) (bytes ++ drop (place + length bytes) old) (omega (arith, le, length-take-le place old within))
     ∙ take-take 16 place old le ∙ same
 
--- to write bytes, and then one byte just before them, is to write both at once
+-- writing bytes, and then one byte just before them, is the same as writing all of them at once
 pub two_writes : (old : List ℕ) (g x : ℕ) (xs written new : List ℕ) → g + 1 ≤ length old → IsWritten old (g + 1) xs written → IsWritten written g (x ∷ []) new → IsWritten old g (x ∷ xs) new
 two_writes old g x xs written new within first second =
     let rest = drop (g + 1 + length xs) old in
@@ -96,7 +96,7 @@ two_writes old g x xs written new within first second =
     second ∙ ap (λ (l : List ℕ). l ++ x ∷ drop (g + 1) written) prefix ∙ ap (λ (l : List ℕ). take g old ++ x ∷ l) (back ∙ ap (λ (k : ℕ). xs ++ drop k old) place)
 
 module _ (byte area used : ℕ) (bodies : List (List ℕ)) (taken : used ≡ length (records bodies)) where
-  -- whatever is changed after the closed gate, the old records are still held
+  -- if an image differs from the old bytes only after the closed gate, it still holds the old records
   behind_held : (n : ℕ) (old image : List ℕ) → HoldsIn byte area bodies old → DiffersWithin (area_begin byte area + used + 1) n old image → HoldsIn byte area bodies image
   behind_held n old image a differs =
       let least = begin_least byte area in
@@ -105,8 +105,7 @@ module _ (byte area used : ℕ) (bodies : List (List ℕ)) (taken : used ≡ len
         header_is = same_header (area_begin byte area + used + 1) n old image (header byte area) (omega (arith, least)) differs a.header_is;
       }
 
-  -- if a body was written after the gate, then, whatever byte the gate is, the image holds the old records, or these and the new
-  -- one
+  -- if a body was written after the gate, the image holds the old records, or these and the new one, whatever byte the gate is
   at_gate_held : (body old written image : List ℕ) → HoldsIn byte area bodies old → used + length body + 6 ≤ area → IsWritten old (area_begin byte area + used + 1) (frame body) written → length written ≡ length old
       → DiffersWithin (area_begin byte area + used) 1 written image → HoldsInOneOf byte area bodies body image
   at_gate_held body old written image a room is long differs =
@@ -169,7 +168,7 @@ InCommit WriteGate store bodies body = IsBodySettled store bodies body
 InCommit SyncGate store bodies body = IsGateWritten store bodies body
 InCommit Acknowledge store bodies body = IsAtRest store (bodies ++ body ∷ [])
 
--- every image holds the old records, or the old ones and the new one
+-- at each point of a commit, every image holds the old records, or these and the new one
 pub commit_images : (due : Due) (store : StoreState) (bodies : List (List ℕ)) (body : List ℕ) → InCommit due store bodies body
     → (image : List ℕ) → IsImage store.cells image → HoldsInOneOf store.area_byte store.area bodies body image
 commit_images WriteBody store bodies body c image now = inl (c.images image now)
@@ -181,7 +180,7 @@ commit_images Acknowledge store bodies body c image now = inr (c.images image no
 pub length-bytes_of : (cells : List Cell) → length (bytes_of cells) ≡ length cells
 length-bytes_of cells = length-map cells (λ (c : Cell). c.byte)
 
--- the size of a disk that holds records
+-- a disk that holds records has room for the header and two areas
 pub size_of : (store : StoreState) (bodies : List (List ℕ)) → HoldsIn store.area_byte store.area bodies (bytes_of store.cells) → 16 + 2 * store.area ≤ length store.cells
 size_of store bodies a = omega (arith, a.holds.is_area.room, length-bytes_of store.cells)
 
@@ -203,7 +202,7 @@ gate_images store bodies body byte s room image now =
     let differs = subst (λ (old : List ℕ). DiffersWithin (gate_of store) 1 old image) (s.alone from.0 from.1) from.2 in
     at_gate_held store.area_byte store.area store.used bodies w.rest.taken body w.before (bytes_of store.cells) image w.held room w.seen w.long differs
 
--- each device step leads to the next point
+-- each device step leads to the next point of the commit
 pub commit_goes_on : (due : Due) (store : StoreState) (bodies : List (List ℕ)) (command : LibraryCommand) → HasRoom due store command → InCommit due store bodies (body_of command)
     → InCommit (due_after due) (stepped due command store) bodies (body_of command)
 commit_goes_on WriteBody store bodies command room c =
@@ -303,7 +302,7 @@ crashed_alone (cell ∷ cells) (byte ∷ choice) (b ∷ image) now = (λ i. now.
     left_settled : (cell : Cell) (byte : ℕ) → (left cell byte).settled ≡ true
     left_settled cell byte = elim (cell.settled) as (λ b. (cond b (settled cell.byte) (settled byte)).settled ≡ true) [ true ↦ refl | false ↦ refl ]
 
--- if a crash cannot change a disk, the disk has the same bytes after a crash
+-- if nothing on a disk is unsettled, a crash leaves its bytes unchanged
 pub crashed_same : (cells : List Cell) (choice : List ℕ) → LeavesAlone (bytes_of cells) (IsImage cells) → bytes_of (crashed cells choice) ≡ bytes_of cells
 crashed_same cells choice alone = alone (bytes_of (crashed cells choice)) (crashed_image cells choice)
 
@@ -312,7 +311,8 @@ length-crashed cells choice = sym (length-bytes_of (crashed cells choice)) ∙ l
 
 -- ---- the number of bytes that records take
 
--- counting one more record: the bytes counted and those of the records that are left are still the bytes of all records
+-- if `taken` and the bytes of the records from `i` on make up the bytes of all records, this still holds once record `i` has
+-- been counted
 pub taken_more : (bodies : List (List ℕ)) (i taken : ℕ) (d : List ℕ) → i < length bodies → taken + length (records (drop i bodies)) ≡ length (records bodies)
     → taken + (length (get_or bodies i d) + 5) + length (records (drop (i + 1) bodies)) ≡ length (records bodies)
 taken_more bodies i taken d within so_far =

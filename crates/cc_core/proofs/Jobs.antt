@@ -1,4 +1,4 @@
--- If one piece of one job is written through the map of entries, the finite map sees an insertion.
+-- Setting one piece of one job through the map of entries is an insertion into the finite map.
 use Rattle.std.proofs.Common.{◌≡◌, ℕ, List, sym, ap, ◌∙◌, cond, Some}
 use Rattle.std.specs.Prelude.{slice_set}
 use Rattle.std.specs.Ordering.{nat_cmp}

@@ -22,11 +22,11 @@ slice_get-push (z ∷ zs) y zero x is = inl is
 slice_get-push (z ∷ zs) y (suc k) x is =
     elim (slice_get-push zs y k x is) [ inl h ↦ inl h | inr h ↦ inr (ap suc h.0, h.1) ]
 
--- what holds for each element holds for the element at an index
+-- a property of each element is a property of the element at any index
 pub All-slice_get : {X : Type 0} (P : X → Type 0) (xs : List X) (k : ℕ) (x : X) → All P xs → slice_get xs k ≡ Some x → P x
 All-slice_get P xs k x all is = subst P (get_or_from_slice_get xs k x x is) (all k x (slice_get_within xs k x is))
 
--- what holds for the element at each index holds for each element
+-- a property of the element at each index is a property of each element
 pub All-each : {X : Type 0} (P : X → Type 0) (xs : List X) → ((k : ℕ) (x : X) → slice_get xs k ≡ Some x → P x) → All P xs
 All-each P xs each k d within = each k _ (slice_get-get_or xs k d within)
 

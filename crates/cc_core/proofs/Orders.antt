@@ -144,7 +144,7 @@ get_removed library name =
     get-remove nat_list_cmp_total library name name
     ∙ ap (λ b. cond b None (get library name)) ((eq_by_cmp_equiv nat_list_cmp_total).refl name)
 
--- inserting a unit that is already there under this name changes nothing
+-- if the library has this unit under this name, inserting it changes nothing
 inserted_same : (library : Units) (name : List ℕ) (unit : StoredUnit) → get library name ≡ Some unit → insert library name unit ≡ library
 inserted_same library name unit is =
     same_map nat_list_cmp_total (slice_cmp-IsAntisymmetric nat_cmp-IsAntisymmetric) (insert library name unit) library
@@ -166,7 +166,7 @@ after_in_effect library (command.Withdraw name) ok =
     let made = made_present library (remove library name) (contains_key library name) 32 (ok_present (contains_key library name) (remove library name) 32 ok) in
     ap (λ (m : Units). get m name) made ∙ get_removed library name
 
--- an accepted command that is in effect already changes nothing
+-- if an accepted command is already in effect, it changes nothing
 effect_stays : (library : Units) (c : LibraryCommand) → IsOk (apply library c) → IsInEffect library c → after library c ≡ library
 effect_stays library (command.Add name unit) ok there =
     let none : is_some (get library name) ≡ false = ok_absent (contains_key library name) (insert library name unit) 31 ok in
@@ -243,7 +243,7 @@ pub no_push : {A : Type 0} (prefix : List A) (last : A) → [] ≡ prefix ++ las
 no_push [] last e = absurd (cc)
 no_push (x ∷ prefix) last e = absurd (cc)
 
--- every order has a prefix that the test of the last command keeps
+-- for every order, the test of its last command keeps some prefix
 pub some_prefix : (library : Units) (order : List Numbered) → (kept : List Numbered) × IsPrefixKept library order kept
 some_prefix library order =
     elim (split_last order) [

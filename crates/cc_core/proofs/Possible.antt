@@ -1,4 +1,4 @@
--- If what an event asks for holds, the event has a step: the new state is the one that the step names. The file also shows when a
+-- If the conditions of an event hold, the event has a step, to the state that the step names. The file also shows when a
 -- handler's answer is right for its event.
 use Rattle.std.proofs.Common.{◌≡◌, ◌⊎◌, inl, inr, ℕ, ◌+◌, ◌≤◌, refl, sym, subst, ap, ◌∙◌, Option, Some, None, arith, length, List}
 use Rattle.std.specs.Prelude.{slice_get, IsTrue, OnOk, OnErr, IsErr, IsErrAnd, IsErrOf, is_err, true, false, ◌↔◌, Result, Ok, Err, ◌++◌, ◌∷◌, []}
@@ -68,7 +68,7 @@ fails_to old client numbered due store committing failed = (
   record { numbered = numbered; due = due; store = store; committing = committing; failed = failed; told = refl; new_is = refl },
 )
 
--- each device step can fail: a write may have left what it was meant to write
+-- each device step that is due can fail: a failed write may have left exactly what it was meant to write
 pub fails : (old : Core) (client : ClientId) (numbered : Numbered) (now : Due) → old.phase ≡ Committing client numbered now → (now ≡ due.Acknowledge → ⊥)
     → (reply : Option Reply) × (new : Core) × Fails client old reply new
 fails old client numbered due.WriteBody committing device =
@@ -126,17 +126,17 @@ begun old client (Ok command) = (
 )
 begun old client (Err refused) = (Some (replies.Refused refused), ticked old, (refl, refl))
 
--- if a result is an error, what holds for an error holds
+-- if a result is an error, and an error implies `X`, then `X` is true
 pub where_refused : {T E X : Type 0} (r : Result T E) → OnErr r X → true ≡ is_err r → X
 where_refused (Ok value) kept err = absurd (cc)
 where_refused (Err fault) kept err = kept
 
--- if a result is Ok, what holds for Ok holds
+-- if a result is Ok, and Ok implies `X`, then `X` is true
 pub where_done : {T E X : Type 0} (r : Result T E) → OnOk r X → false ≡ is_err r → X
 where_done (Ok value) done err = done
 where_done (Err fault) done err = absurd (cc)
 
--- if memory ran out, and everything is as before and the event has a step, the answer is right for the event
+-- if memory ran out, everything is as before, and the event has a step, then the answer is right for the event
 pub memory_answers : {S : Type 0} (step : Option Reply → S → Type 0) (result : Result (Option Reply) CoreFault) (old new : S) → IsErr result → IsErrAnd result (λ fault. fault ≡ faults.OutOfMemory)
     → (reply : Option Reply) × (after : S) × step reply after → new ≡ old → Answers step result old new
 memory_answers step (Ok reply) old new err is some same = absurd (cc)
@@ -151,7 +151,7 @@ same_order old new is = not_longer old new (omega (arith, ap length is))
 committing_apart : {a : ClientId} {n : Numbered} {d : Due} {c : Commit} {e : RewriteDue} → Committing a n d ≡ Rewriting c e → ⊥
 committing_apart is = absurd (cc)
 
--- if the second of two steps is impossible, an answer for the first one is an answer for either
+-- if the second of two steps is impossible, an answer for the first one is an answer for "one of the two"
 pub answers_first : {S : Type 0} (A B : Option Reply → S → Type 0) (result : Result (Option Reply) CoreFault) (old new : S) → ((reply : Option Reply) (after : S) → B reply after → ⊥)
     → Answers A result old new → Answers (λ reply after. A reply after ⊎ B reply after) result old new
 answers_first A B (Ok reply) old new none a = (
@@ -214,7 +214,7 @@ module _ {P : Type 0} where
 
   -- ---- how a handler answers
 
-  -- a handler of the core answers for its event
+  -- if an answer is right for a step of the core, and jobs and workers stay the same, it is right for the whole event
   pub core_answers : (step : Core → Option Reply → Core → Type 0) (old new : Contents P) (result : Result (Option Reply) CoreFault) → Answers (step old.core) result old.core new.core
       → new.jobs ≡ old.jobs → new.workers ≡ old.workers → Answers (StepsCore step old) result old new
   core_answers step old new (Ok reply) a jobs workers = (
@@ -230,7 +230,8 @@ module _ {P : Type 0} where
     λ i. record { core = a.3 i; jobs = jobs i; workers = workers i },
   )
 
-  -- a handler that ends a job, or all jobs, answers for its event if it refuses
+  -- if a refusal is right for a step of the core, and jobs and workers stay the same, it is right for the event that also
+  -- ends a job
   pub ends_refused : (client : ClientId) (step : Core → Option Reply → Core → Type 0) (old new : Contents P) (fault : CoreFault) → Answers (step old.core) (Err fault) old.core new.core
       → new.jobs ≡ old.jobs → new.workers ≡ old.workers → Answers (EndsJob client step old) (Err fault) old new
   ends_refused client step old new fault a jobs workers = (
@@ -249,7 +250,8 @@ module _ {P : Type 0} where
     λ i. record { core = a.3 i; jobs = jobs i; workers = workers i },
   )
 
-  -- a handler that refuses a failed device step of the commit answers for that failure
+  -- if a refusal is right for the failure of a commit's device step, and jobs and workers stay the same, it is right for
+  -- `FailsJob`
   pub fails_refused : (client : ClientId) (numbered : Numbered) (d : Due) (old new : Contents P) (fault : CoreFault) → old.core.phase ≡ Committing client numbered d
       → Answers (Fails client old.core) (Err fault) old.core new.core → new.jobs ≡ old.jobs → new.workers ≡ old.workers → Answers (FailsJob old) (Err fault) old new
   fails_refused client numbered d old new fault committing a jobs workers = (
@@ -263,7 +265,7 @@ module _ {P : Type 0} where
       client_of : {a b : ClientId} {m n : Numbered} {d e : Due} → Committing a m d ≡ Committing b n e → a ≡ b
       client_of is = cc
 
-  -- in a rewrite no commit can fail, and outside a rewrite no rewrite can
+  -- during a rewrite no commit can fail, so the core's answer for a failed rewrite is the answer for `Fail`
   pub in_rewrite : (old : Contents P) (commit : Commit) (due : RewriteDue) → old.core.phase ≡ Rewriting commit due → (result : Result (Option Reply) CoreFault) (core : Core)
       → Answers (RewriteFails old.core) result old.core core → Answers (FailsStep old) result old (record old { core = core })
   in_rewrite old commit due rewriting result core a =
@@ -276,7 +278,7 @@ module _ {P : Type 0} where
   out_of_rewrite old new none result a =
       answers_first (FailsJob old) (StepsCore RewriteFails old) result old new (λ reply after step. none step.core_step.commit step.core_step.due step.core_step.rewriting) a
 
-  -- an answer that is a step, or 29 if there is no step, or 40 if there is one, is 29 exactly if there is no step
+  -- a right answer is 29 exactly if the event has no step
   pub exact : (rules : Rules P) (old : Contents P) (event : Event P) (result : Result (Option Reply) CoreFault) (new : Contents P)
       → Answers (Step rules old event) result old new → IsErrOf result faults.NotNow ↔ IsImpossible rules old event
   exact rules old event (Ok reply) new a = (a.1, λ none. absurd (none reply new a.0))
@@ -284,7 +286,7 @@ module _ {P : Type 0} where
   exact rules old event (Err faults.OutOfMemory) new a =
       (a.1, λ none. let some = a.2 refl in absurd (none some.0 some.1 some.2))
 
-  -- the events that put nothing into the order
+  -- the event is not a Begin, so it adds nothing to the order
   abbrev pub IsNoBegin : Event P → Type 0
   IsNoBegin (event.Submit client call request) = Unit {0}
   IsNoBegin (event.Take worker client part) = Unit {0}
@@ -304,7 +306,7 @@ module _ {P : Type 0} where
   IsNoBegin (event.Crash choice) = Unit {0}
   IsNoBegin event.Recover = Unit {0}
 
-  -- a step that leaves the core as it was puts nothing into the order
+  -- a step that leaves the core as it was adds nothing to the order
   same_core : (old new : Contents P) → new.core ≡ old.core → PutsCommand old.core new.core
   same_core old new is = same_order old.core new.core (ap (λ (s : Core). s.order) is)
 
@@ -331,7 +333,7 @@ module _ {P : Type 0} where
       not_longer old.core new.core
       (omega (arith, ap (λ (s : Core). length s.order) r.new_is, ap length r.longest.prefix, length-take-le r.longest.count old.core.order r.longest.within, r.longest.within))
 
-  -- an event of that kind, whatever it answers, puts nothing into the order
+  -- an event that is not a Begin adds nothing to the order, whatever it answers
   pub puts_none : (rules : Rules P) (old : Contents P) (e : Event P) (result : Result (Option Reply) CoreFault) (new : Contents P) → IsNoBegin e
       → Answers (Step rules old e) result old new → OnOk result (PutsCommand old.core new.core)
   puts_none rules old e (Ok reply) new plain a = step_puts_none rules old e reply new plain a.0

@@ -16,7 +16,7 @@ use Rattle.cc_core.specs.internal.Ready.{IsRecoverable, IsReady, IsReadyIn, IsPr
 use Rattle.cc_core.proofs.Beginnings.{holds_at}
 use Rattle.cc_core.proofs.Orders.{prefix_longest}
 
--- what is found fits in the area that the state knows
+-- the records that are found leave room for a closed gate in an area of the state's size
 pub found_room : (store : StoreState) (order : List Numbered) (library : Units) (used area : ℕ) (bodies : List (List ℕ)) → IsRecoverable store order → IsFound (bytes_of store.cells) area bodies library used → used + 1 ≤ store.area
 found_room store order library used area bodies r f =
     let same = r.holds.alone area bodies f.holds in
@@ -29,7 +29,8 @@ recoverable_of old ready crashed = subst (λ (phase : Phase). IsReadyIn phase ol
 pub recovers_of : (store : StoreState) (order : List Numbered) (r : IsRecoverable store order) → Recovers (bytes_of store.cells) r.library
 recovers_of store order r = record { area = store.area; bodies = r.bodies; holds = r.holds.holds; stand = r.stand }
 
--- so the state after the opening is the one that the recovery leads to
+-- if a crashed disk is opened, and the order is cut as the test of its last command says, the new state is the one
+-- after the recovery
 pub found_reopens : (old new : Core) (library : Units) (used area : ℕ) (bodies : List (List ℕ)) (kept : List Numbered) → IsReady old → old.phase ≡ Crashed
     → (f : IsFound (bytes_of old.store.cells) area bodies library used) → (byte : ℕ) → f.holds.area_byte ≡ byte
     → IsPrefixKept library old.order kept → new ≡ record old { library = library; order = kept; phase = Idle; store = record old.store { area_byte = byte; used = used } } → Reopens old None new

@@ -116,7 +116,7 @@ byte_images store bodies more byte room s image at =
     let differs = subst (λ (old : List ℕ). DiffersWithin 0 1 old image) (s.alone from.0 from.1) from.2 in
     mid_held store.area_byte store.area bodies more w.before w.held room image (inr (bytes_of store.cells, w.seen, differs))
 
--- each further step leads to the next point of the rewrite
+-- each step after the first write leads to the next point of the rewrite
 pub all_synced : (store : StoreState) (bodies more : List (List ℕ)) (c : Commit) → InRewrite SyncAll store bodies more → InRewrite WriteArea (rewrite_stepped SyncAll c store) bodies more
 all_synced store bodies more c r =
     let same = sym (bytes_of-synced store.cells) in
@@ -140,7 +140,7 @@ byte_written store bodies more room r =
       seen = done_held store.area_byte store.area bodies more w.before w.held room _ (bytes_of store.cells, w.seen, bytes_of-written store.cells 0 (x ∷ []));
     }
 
--- after the last step, the new records are at rest
+-- after the last step of a rewrite, the disk is at rest with the new records
 pub rewrite_ends : (store : StoreState) (bodies more : List (List ℕ)) → InRewrite SyncArea store bodies more → IsAtRest (rewrite_stepped SyncArea (commit_of store more) store) more
 rewrite_ends store bodies more r = record {
   taken = omega (arith, length-whole more);

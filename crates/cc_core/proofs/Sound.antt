@@ -1,6 +1,6 @@
--- What holds for the contents after any events. One record states it, and each step keeps it, so a whole run does. Besides the
--- order and the jobs it says, by phase, what the disk's images hold. A device step leads from one point of the commit to the
--- next, a crash leaves one of the images, and a recovery reads that image.
+-- What holds for the contents after any events. One record states it; each step keeps this record true, so a whole run keeps it
+-- true. Besides the order and the jobs, this record says, by phase, what the disk's images hold. A device step leads from one
+-- point of the commit to the next, a crash leaves one of the images, and a recovery reads that image.
 use Rattle.std.proofs.Common.{◌≡◌, ◌⊎◌, inl, inr, ℕ, zero, suc, ◌+◌, ◌*◌, ◌<◌, ◌≤◌, ◌^◌, List, [], ◌∷◌, ◌++◌, length, take, drop, Option, Some, None, Result, Ok, Err, refl, sym, ap, subst, ◌∙◌, arith, All, Contains}
 use Rattle.std.specs.Prelude.{IsOk, slice_get, replicate}
 use Rattle.std.specs.Ordering.{nat_cmp}
@@ -102,7 +102,7 @@ formatted_holds area store order f none =
       stand = subst (λ (l : List Numbered). StandFor [] (library_of (commands l))) (sym none) (record { commands = []; spelled = tt; accepted = tt; map_is = refl });
     }
 
--- if a disk is kept in this way, the size of its areas is within its limit
+-- if a disk holds what belongs to its phase, its areas have at most 2^30 bytes
 area_most : (phase : Phase) (store : StoreState) (order acknowledged : List Numbered) → IsKept phase store order acknowledged → store.area ≤ 2 ^ 30
 area_most phase store order acknowledged k =
     (each_ends phase store order acknowledged k (bytes_of store.cells) (bytes_are_image store.cells)).held.is_area.most
@@ -116,7 +116,7 @@ slice_get-prefix (z ∷ xs) ys (suc k) x is = slice_get-prefix xs ys k x is
 in_whole : (prefix rest whole : List Numbered) → whole ≡ prefix ++ rest → (k : ℕ) (a : Numbered) → slice_get prefix k ≡ Some a → slice_get whole k ≡ Some a
 in_whole prefix rest whole is k a there = ap (λ (l : List Numbered). slice_get l k) is ∙ slice_get-prefix prefix rest k a there
 
--- after a crash the library can be opened
+-- after a crash the disk is recoverable
 recoverable : (store : StoreState) (order acknowledged : List Numbered) → AreAccepted empty (commands order) → HoldsCrash store order acknowledged → IsRecoverable store order
 recoverable store order acknowledged all h = at h.ends.known
   where
@@ -140,7 +140,7 @@ recoverable store order acknowledged all h = at h.ends.known
       known = inr (lacks.prefix, lacks.last, lacks.is, refl);
     }
 
--- if the acknowledged commands are all before the last command of the order, each of them has a lower number than that
+-- if the acknowledged commands all come before the last command of the order, their numbers are below its number
 acked_below : (order acknowledged prefix : List Numbered) (last : Numbered) → order ≡ prefix ++ last ∷ [] → AreRising order → All (Contains prefix) acknowledged → AreBelow last.number.value acknowledged
 acked_below order acknowledged prefix last is rising all k a there =
     let found = All-slice_get (Contains prefix) acknowledged k a all there in
@@ -149,7 +149,7 @@ acked_below order acknowledged prefix last is rising all k a there =
     let second : slice_get order (length prefix) ≡ Some last = ap (λ (l : List Numbered). slice_get l (length prefix)) is ∙ slice_get-last prefix last in
     rising at.0 (length prefix) a last (slice_get_within prefix at.0 a at.1) first second
 
--- phases with different constructors are not equal
+-- if two phases of a commit are equal, their commands are equal
 numbered_of : {a b : ClientId} {m n : Numbered} {d e : Due} → Committing a m d ≡ Committing b n e → m ≡ n
 numbered_of is = cc
 
@@ -181,7 +181,7 @@ begun_not_crashed : (s : Core) (client : ClientId) (v : Result LibraryCommand Re
 begun_not_crashed s client (Err refused) reply new free begun crashed = subst IsFree (sym (ap (λ (c : Core). c.phase) begun.1) ∙ crashed) free
 begun_not_crashed s client (Ok command) reply new free begun crashed = absurd (crashed_not_committing client (numbered_now s command) due.WriteBody (sym crashed ∙ ap (λ (c : Core). c.phase) begun.1))
 
--- after a step of a rewrite the phase is no commit
+-- after a step of a rewrite no command is in commit
 after_not_committing : (commit : Commit) (rest : RewriteDue) (client : ClientId) (numbered : Numbered) (due : Due) → phase_after commit rest ≡ Committing client numbered due → ⊥
 after_not_committing commit left.SyncAll client numbered due is = rewriting_not_committing commit left.WriteArea client numbered due is
 after_not_committing commit left.WriteArea client numbered due is = rewriting_not_committing commit left.SyncArea client numbered due is
@@ -205,11 +205,11 @@ live_after commit left.SyncArea order = refl
 nothing_held : {X : Type 0} (m : FinMap nat_cmp X) (k : ℕ) (x : X) → m ≡ empty → get m k ≡ Some x → ⊥
 nothing_held m k x is found = let none = sym (get-empty nat_cmp k) ∙ ap (λ n. get n k) (sym is) ∙ found in absurd (cc)
 
--- what a second crash may leave, the first one may leave too
+-- an image of the disk after a crash is an image of the disk before the crash
 crashed_is_image : (cells : List Cell) (choice image : List ℕ) → IsImage (crashed cells choice) image → IsImage cells image
 crashed_is_image cells choice image now = subst (IsImage cells) (sym (crashed_alone cells choice image now)) (crashed_image cells choice)
 
--- what holds for the core after any events
+-- the core has everything that is kept after any events
 pub record IsSoundCore (is_right : StoredUnit → Type 0) (s : Core) : Type 0 where
   pub replay : s.library ≡ live s.phase s.order
   pub accepted : AreAccepted empty (commands s.order)
@@ -223,7 +223,7 @@ pub record IsSoundCore (is_right : StoredUnit → Type 0) (s : Core) : Type 0 wh
   pub disk : IsKept s.phase s.store s.order s.acknowledged
 
 module _ {P : Type 0} (rules : Rules P) (keeps : P → Type 0) where
-  -- the pieces of a new job all wait
+  -- a new job is named: its pieces are planned for its source, and all wait
   planned_named : (call : CallId) (asked : Request) (plan : Result ℕ ℕ) → ((source : List ℕ) → source_in asked ≡ Some source → rules.plan source plan) → IsNamed rules keeps (planned {P = P} call asked plan)
   planned_named call asked (Ok n) plans = record {
     counted = λ source from none. subst (λ (m : ℕ). rules.plan source (Ok m)) (sym (length-replicate n Waiting)) (plans source from);
@@ -273,7 +273,7 @@ module _ {P : Type 0} (rules : Rules P) (keeps : P → Type 0) where
   AllNamed-empty : (jobs : FinMap nat_cmp (Job P)) → jobs ≡ empty → AllNamed jobs
   AllNamed-empty jobs is client job found = absurd (nothing_held jobs client job is found)
 
-  -- what holds for the contents after any events
+  -- the contents have everything that is kept after any events
   pub record IsSound (is_right : StoredUnit → Type 0) (s : Contents P) : Type 0 where
     pub core : IsSoundCore is_right s.core
     pub named : AllNamed s.jobs
@@ -392,7 +392,7 @@ module _ {P : Type 0} (rules : Rules P) (keeps : P → Type 0) where
         } in
         subst (IsSoundCore is_right) (sym begun.1) there
 
-    -- if a command is in commit, the disk holds what belongs to that point of the commit
+    -- if a command is in commit, the disk holds what belongs to the step that is due
     flight : (s : Core) (client : ClientId) (numbered : Numbered) (due : Due) → IsSoundCore is_right s → s.phase ≡ Committing client numbered due → HoldsFlight numbered due s.store s.order s.acknowledged
     flight s client numbered due sound committing = subst (λ phase. IsKept phase s.store s.order s.acknowledged) committing sound.disk
 
@@ -682,7 +682,7 @@ module _ {P : Type 0} (rules : Rules P) (keeps : P → Type 0) where
     turn_IsSound old e new sound (inl step) = step_IsSound old e step.0 new sound step.1 step.2 step.3
     turn_IsSound old e new sound (inr stays) = subst (IsSound is_right) (sym stays.1) sound
 
-    -- so does a run
+    -- a run keeps the contents sound
     pub run_IsSound : (old : Contents P) (events : List (Event P)) (new : Contents P) → IsSound is_right old → Run rules keeps old events new → IsSound is_right new
     run_IsSound old [] new sound run = subst (IsSound is_right) (sym run) sound
     run_IsSound old (e ∷ events) new sound run = run_IsSound run.0 events new (turn_IsSound old e run.0 sound run.1.0) run.1.1
@@ -692,7 +692,7 @@ module _ {P : Type 0} (rules : Rules P) (keeps : P → Type 0) where
     beginning-IsSound s (inl start) units = start-IsSound start.0 s start.1
     beginning-IsSound s (inr opened) units = opened-IsSound s opened units
 
-    -- so everything that is reached is sound
+    -- contents that are reached are sound
     pub reached_IsSound : (s : Contents P) → Reached rules keeps is_right s → IsSound is_right s
     reached_IsSound s reached = run_IsSound reached.first reached.events s (beginning-IsSound reached.first reached.started reached.right) reached.run
 
@@ -701,7 +701,7 @@ module _ {P : Type 0} (rules : Rules P) (keeps : P → Type 0) where
     pub sound_survives : (s : Core) → IsSoundCore is_right s → EachImageSurvives s
     sound_survives s sound image now = ends_survives s.store.area s.order s.acknowledged image sound.rising sound.rising_acked sound.acked (each_ends s.phase s.store s.order s.acknowledged sound.disk image now)
 
-    -- in a rewrite both writes lie within the disk
+    -- during a rewrite both writes of its commit lie within the disk
     rewrite_ready : (commit : Commit) (due : RewriteDue) (store : StoreState) (order acknowledged : List Numbered) → HoldsRewrite commit due store order → IsRewrite commit store
     rewrite_ready commit due store order acknowledged k =
         let held = (each_ends (Rewriting commit due) store order acknowledged k (bytes_of store.cells) (bytes_are_image store.cells)).held in

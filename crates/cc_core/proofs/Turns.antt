@@ -1,4 +1,5 @@
--- How a run goes on. No event but a Begin makes the order longer; and a worker hands in the pieces that give a unit one after the other.
+-- How a run goes on. Only a Begin makes the order longer. The pieces that make up a unit can be handed in by one worker, one after the
+-- other.
 use Rattle.std.proofs.Common.{◌≡◌, ◌⊎◌, ℕ, zero, suc, ◌+◌, ◌≤◌, inl, inr, Bool, true, false, cond, IsTrue, List, [], ◌∷◌, ◌++◌, length, map, take, Option, Some, None, Result, Ok, Err, refl, sym, ap, ◌∙◌, subst, arith, append_assoc, All}
 use Rattle.std.specs.Prelude.{slice_get, slice_set, replicate}
 use Rattle.std.specs.Ordering.{nat_cmp, eq_by_cmp, is_eq}
@@ -49,7 +50,7 @@ tied_at Less e = absurd (cc)
 tied_at Equal e = refl
 tied_at Greater e = absurd (cc)
 
--- two keys are the same, or they do not compare as equal
+-- two keys are equal, or they do not compare as equal
 apart_or : (k n : ℕ) → (k ≡ n) ⊎ (eq_by_cmp nat_cmp k n ≡ false)
 apart_or k n = at (eq_by_cmp nat_cmp k n) refl
   where
@@ -64,7 +65,7 @@ other_inserted m n v k apart =
       | inr tied ↦ get-insert nat_cmp_total m n v k ∙ ap (λ b. cond b (Some v) (get m k)) tied
     ]
 
--- a key without a value has none after an insertion at another key that had one, nor after a removal
+-- a key without a value still has none after an insertion at a key that had a value
 none_put : {X : Type 0} (m : FinMap nat_cmp X) (n : ℕ) (v w : X) (k : ℕ) → get m n ≡ Some v → get m k ≡ None → get (insert m n w) k ≡ None
 none_put m n v w k there none = other_inserted m n w k (λ same. let h = sym (ap (get m) same) ∙ none in let never : Some v ≡ None = sym there ∙ h in absurd (cc)) ∙ none
 
@@ -157,7 +158,7 @@ module _ {P : Type 0} (rules : Rules P) where
       subst IsCommand (ap (λ (n : Numbered). n.command) same) (is_put d refl)
   puts_begun old client (Err refused) reply new is_put begun numbered is = absurd (longer old.order numbered (sym (ap (λ (c : Core). c.order) begun.1) ∙ is))
 
-  -- a step puts only commands with a spelling into the order, if the command that begins has one
+  -- if the command that begins has a spelling, the step adds only a command with a spelling to the order
   puts : (keeps : P → Type 0) (old : Contents P) (e : Event P) (reply : Option Reply) (new : Contents P) → BeginsSpelled rules old e → Step rules old e reply new → PutsCommand old.core new.core
   puts keeps old (event.Begin client) reply new spelled step numbered is =
       puts_begun old.core client (verdict rules old.core.phase old.core.library old.core.store step.job) reply new.core
@@ -233,7 +234,7 @@ module _ {P : Type 0} (rules : Rules P) where
   no_work old event.Recover reply new step not k none = none_same old.workers new.workers k step.workers none
 
 module _ {P : Type 0} (rules : Rules P) (keeps : P → Type 0) where
-  -- an event that begins no job, and hands in no piece or one that keeps what its type keeps, takes its step as a turn
+  -- if an event is not a Begin, and a piece that it hands in keeps what its type keeps, its step is a turn
   plain_turn : (old : Contents P) (e : Event P) (reply : Option Reply) (new : Contents P) → ((client : ClientId) → e ≡ event.Begin client → ⊥) → HandsIn keeps e → Step rules old e reply new → Turn rules keeps old e new
   plain_turn old e reply new none hands step = step_turn rules keeps old e reply new step hands (λ client job c is. absurd (none client is))
 
@@ -296,7 +297,7 @@ module _ {P : Type 0} (rules : Rules P) (keeps : P → Type 0) where
         idle = more.idle;
       }
 
-  -- if all pieces of a job are made and give a unit, the job is built to that unit
+  -- if all pieces of a job are made and make up a unit, that unit is built from the job's source
   built_is : (call : CallId) (asked : Request) (source : List ℕ) (pieces : List P) (unit : StoredUnit) → rules.unit source pieces ≡ Ok unit
       → built rules (job_at call asked (map (λ (p : P). Made p) pieces)) source ≡ Ok unit
   built_is call asked source pieces unit is =

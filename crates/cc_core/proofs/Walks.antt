@@ -1,4 +1,4 @@
--- What the handwritten proofs share about constructors of a struct without fields at run time.
+-- Lemmas that the handwritten proofs share, about constructors of a struct without fields at run time.
 use Rattle.std.proofs.Common.{List, [], ◌∷◌, refl}
 use seplogic.Ra.Ura.{Ura}
 use mir.Val.{Val, vstruct, vnil}

@@ -56,7 +56,7 @@ not_full m n is = at (nat_le m n) refl is
     at true le is = leb-true m n le
     at false le is = absurd (cc)
 
--- what holds for a command that is accepted
+-- the command is accepted: no device step has failed, the library takes it, and its record fits
 pub record IsTaken (phase : Phase) (library : Units) (store : StoreState) (r : Result LibraryCommand ℕ) (c : LibraryCommand) : Type 0 where
   pub open' : closed phase ≡ None
   pub same : r ≡ Ok c
@@ -85,11 +85,11 @@ module _ {P : Type 0} (rules : Rules P) (keeps : P → Type 0) where
     pub named : (source : List ℕ) → source_in job.request ≡ Some source → (k : ℕ) (p : P) → slice_get job.pieces k ≡ Some (Made p) → (rules.source_of p ≡ source) × (rules.part_of p ≡ k)
     pub kept : (k : ℕ) (p : P) → slice_get job.pieces k ≡ Some (Made p) → keeps p
 
-  -- this property holds for each source and the unit that all its pieces give
+  -- `has` holds for each source and the unit that its pieces make up
   abbrev pub Gives : (List ℕ → StoredUnit → Type 0) → Type 0
   Gives has = (source : List ℕ) (pieces : List P) (unit : StoredUnit) → AreWhole rules source pieces → All keeps pieces → rules.unit source pieces ≡ Ok unit → has source unit
 
-  -- such a unit is right, and has that source: the law that each build proves says both
+  -- the unit that the pieces of a source make up is right; each build proves this as part of its law
   abbrev pub IsLawful : (StoredUnit → Type 0) → Type 0
   IsLawful is_right = Gives (λ source unit. is_right unit)
 
@@ -102,7 +102,7 @@ module _ {P : Type 0} (rules : Rules P) (keeps : P → Type 0) where
   pub of_source : (is_right : StoredUnit → Type 0) → Gives (λ source unit. (unit.source ≡ source) × is_right unit) → IsOfSource
   of_source is_right law source pieces unit whole kept is = (law source pieces unit whole kept is).0
 
-  -- if all pieces are there and none was refused, those that were made are all the pieces, each at its index
+  -- if all pieces have been answered and none was refused, the made pieces are all the pieces, each at its index
   all_made : (ps : List (Progress P)) → IsTrue (all_there ps) → first_refused ps ≡ None
       → (length (made_pieces ps) ≡ length ps) × ((k : ℕ) (p : P) → slice_get (made_pieces ps) k ≡ Some p → slice_get ps k ≡ Some (Made p))
   all_made [] there none = (refl, λ k p is. absurd (cc))
@@ -118,7 +118,7 @@ module _ {P : Type 0} (rules : Rules P) (keeps : P → Type 0) where
       made_at q ps rest zero p is = let same : q ≡ p = cc in ap (λ x. Some (Made x)) same
       made_at q ps rest (suc k) p is = rest k p is
 
-  -- so a unit that a job's pieces give has the property
+  -- if all pieces of a job have been answered, `has` holds for the job's source and the unit that is built from the pieces
   built_has : (has : List ℕ → StoredUnit → Type 0) → Gives has → (job : Job P) (source : List ℕ) (unit : StoredUnit)
       → IsNamed job → source_in job.request ≡ Some source → IsTrue (all_there job.pieces) → built rules job source ≡ Ok unit → has source unit
   built_has has law job source unit named from there is =

@@ -7,7 +7,7 @@ use Rattle.cc_core.specs.declared.fault.BuildRefusal.TheVariants as build
 use Rattle.cc_core.specs.declared.fault.Refusal.{Refusal}
 use Rattle.cc_core.specs.declared.fault.Refusal.TheVariants as refusal
 
--- the number of the fault if an event takes no step
+-- the number of the fault that says why an event takes no step
 abbrev pub fault_number : CoreFault → ℕ
 fault_number core_fault.NotNow = 29
 fault_number core_fault.OutOfMemory = 40
@@ -26,12 +26,12 @@ refusal_number refusal.Full = 34
 refusal_number refusal.DiskFault = 35
 refusal_number refusal.Closed = 36
 
--- a build's refusal agrees with the rule: it has the number with which the rule refuses; if memory ran out, nothing is claimed
+-- a build's refusal has the number with which the rule refuses; if memory ran out, nothing is claimed
 abbrev pub RefusesAs : {A : Type 0} → BuildRefusal → Result A ℕ → Type 0
 RefusesAs (build.Refused number) rule = rule ≡ Err number
 RefusesAs build.OutOfMemory rule = Unit {0}
 
--- the same for the rule that says how many pieces a source has
+-- a build's refusal has a number that the rule allows; if memory ran out, nothing is claimed
 abbrev pub RefusesPlan : BuildRefusal → (Result ℕ ℕ → Type 0) → Type 0
 RefusesPlan (build.Refused number) answers = answers (Err number)
 RefusesPlan build.OutOfMemory answers = Unit {0}

@@ -27,7 +27,7 @@ source_in (command.Add name source) = Some source
 source_in (command.Replace name source) = Some source
 source_in (command.Withdraw name) = None
 
--- a refusal, if there is one; else what comes next
+-- the refusal, if there is one; else the next result
 abbrev pub unless : {A E : Type 0} → Option E → Result A E → Result A E
 unless None next = next
 unless (Some refusal) next = Err refusal
@@ -45,7 +45,7 @@ closed (Rewriting commit due) = None
 closed (Failed failed) = Some refusal.Closed
 closed Crashed = None
 
--- a name that is in the map is not added; one that is not there is not replaced or withdrawn
+-- an Add of a name that is in the map is refused, and a Replace or Withdraw of a name that is not
 abbrev pub map_refusal : Units → LibraryCommand → Option Refusal
 map_refusal library (command.Add name unit) = if contains_key library name then Some refusal.Exists else None
 map_refusal library (command.Replace name unit) = if contains_key library name then None else Some refusal.Absent
@@ -64,18 +64,18 @@ first_of_two (Some refusal) second = Some refusal
 abbrev pub command_refusal : Phase → Units → StoreState → LibraryCommand → Option Refusal
 command_refusal phase library store command = first_of_two (closed phase) (first_of_two (map_refusal library command) (full store command))
 
--- a command that is accepted, or why it is refused: by the build, or for the reasons above
+-- the command if it is accepted, else why it is refused: by the build, or for a reason in `command_refusal`
 abbrev pub accepted : Phase → Units → StoreState → Result LibraryCommand ℕ → Result LibraryCommand Refusal
 accepted phase library store (Ok command) = unless (command_refusal phase library store command) (Ok command)
 accepted phase library store (Err number) = Err (refusal.Build number)
 
 module _ {P : Type 0} where
-  -- the job of a call whose source has this plan: each piece waits; a refused source has no pieces
+  -- the job of a call whose source has this plan: each piece waits; if the plan refuses the source, there are no pieces
   abbrev pub planned : CallId → Request → Result ℕ ℕ → Job P
   planned call asked (Ok pieces) = record { call = call; request = asked; refusal = None; pieces = replicate pieces Waiting }
   planned call asked (Err number) = record { call = call; request = asked; refusal = Some number; pieces = [] }
 
-  -- the number of pieces of a request, or the number that refuses it: that of its source's plan; a withdrawal has no pieces
+  -- the plan of a request is that of its source: a number of pieces, or a number that refuses; a withdrawal has no pieces
   abbrev pub IsPlanned : Rules P → Request → Result ℕ ℕ → Type 0
   IsPlanned rules (command.Add name source) plan = rules.plan source plan
   IsPlanned rules (command.Replace name source) plan = rules.plan source plan
@@ -92,7 +92,7 @@ module _ {P : Type 0} where
   is_there (Made piece) = true
   is_there (Refused number) = true
 
-  -- every piece has been answered
+  -- a worker has answered every piece
   abbrev pub all_there : List (Progress P) → Bool
   all_there pieces = list_all is_there pieces
 
@@ -104,7 +104,7 @@ module _ {P : Type 0} where
   first_refused (Made piece ∷ rest) = first_refused rest
   first_refused (Refused number ∷ rest) = Some number
 
-  -- the pieces that were made, in their order
+  -- the pieces that were made, in order
   abbrev pub made_pieces : List (Progress P) → List P
   made_pieces [] = []
   made_pieces (Waiting ∷ rest) = made_pieces rest
@@ -112,8 +112,7 @@ module _ {P : Type 0} where
   made_pieces (Made piece ∷ rest) = piece ∷ made_pieces rest
   made_pieces (Refused number ∷ rest) = made_pieces rest
 
-  -- the unit of a job's source; it is refused with the source's number, else with the number of the first refused piece, else
-  -- with the build's number for the pieces
+  -- the unit of a job's source, or what refuses it: the source's number, else the first refused piece's, else the build's for the pieces
   abbrev pub built : Rules P → Job P → List ℕ → Result StoredUnit ℕ
   built rules job source = unless job.refusal (unless (first_refused job.pieces) (rules.unit source (made_pieces job.pieces)))
 

@@ -35,7 +35,7 @@ use Rattle.cc_core.specs.Step.{Step, IsImpossible, IsStart, Advances, RewritesAl
 abbrev pub EachUnit : (StoredUnit → Type 0) → Units → Type 0
 EachUnit is_right library = (name : List ℕ) (unit : StoredUnit) → get library name ≡ Some unit → is_right unit
 
--- the unit is one of this map's, or is right
+-- the unit is in this map, or is right
 abbrev pub IsRightOr : (StoredUnit → Type 0) → Units → StoredUnit → Type 0
 IsRightOr is_right base unit = ((name : List ℕ) × (get base name ≡ Some unit)) ⊎ is_right unit
 
@@ -47,8 +47,7 @@ AreRising numbered = (i j : ℕ) (a b : Numbered) → i < j → slice_get number
 abbrev pub but_last : List Numbered → List Numbered
 but_last order = take (length order - 1) order
 
--- the library that clients see: that of the order, but without its last command if that command is in commit or has failed; from
--- a crash until the recovery it is empty
+-- the library that clients see: that of the order, without a last command that is in commit or has failed; empty from a crash to recovery
 abbrev pub live : Phase → List Numbered → Units
 live Idle order = library_of (commands order)
 live (Committing client last due) order = library_of (commands (but_last order))
@@ -57,9 +56,9 @@ live (Failed (Some last)) order = library_of (commands (but_last order))
 live (Failed None) order = library_of (commands order)
 live Crashed order = empty
 
--- The image recovers to the library of a prefix of the order, and to no other. The prefix has every acknowledged command, and
--- lacks at most the last command of the order. The sequence numbers of both lists ascend, so a command that was acknowledged
--- twice is twice in the prefix.
+-- The image recovers to the library of a prefix of the order, and to no other. The prefix has every acknowledged command, and lacks at
+-- most the last command of the order. The sequence numbers of the order and of the acknowledged commands ascend, so equal commands that
+-- were both acknowledged are both in the prefix.
 pub record Survives (image : List ℕ) (order acknowledged : List Numbered) : Type 0 where
   pub rising : AreRising order
   pub rising_acked : AreRising acknowledged
@@ -70,12 +69,11 @@ pub record Survives (image : List ℕ) (order acknowledged : List Numbered) : Ty
   pub acked : All (Contains kept) acknowledged
   pub recovers : RecoversAlone image (library_of (commands kept))
 
--- every image of the disk survives in this way
+-- every image of the disk survives
 abbrev pub EachImageSurvives : Core → Type 0
 EachImageSurvives s = (image : List ℕ) → IsImage s.store.cells image → Survives image s.order s.acknowledged
 
--- each unit of the library to which an image recovers has this property; this includes the unit of a command that is in commit or
--- has failed
+-- if an image recovers to a library, each of its units has this property, also the unit of a command that is in commit or has failed
 abbrev pub EachImageIsRight : (StoredUnit → Type 0) → Core → Type 0
 EachImageIsRight is_right s = (image : List ℕ) (library : Units) → IsImage s.store.cells image → Recovers image library → EachUnit is_right library
 
@@ -102,8 +100,7 @@ pub record Commits (client : ClientId) (numbered : Numbered) (old new : Core) : 
   pub writes_gate : Advances dues.WriteGate body_settled None gate_written
   pub syncs_gate : Advances dues.SyncGate gate_written None new
 
--- the commit leaves the bytes of one record, with its gate open and a closed gate after it, at the offset of the earlier closed
--- gate; no other byte differs
+-- the commit leaves one record with an open gate, and a closed gate after it, at the offset of the old closed gate; no other byte changes
 abbrev pub LeavesRecord : Numbered → Core → Core → Type 0
 LeavesRecord numbered old new =
     IsWritten (bytes_of old.store.cells) (gate_of old.store) (record_bytes (body_of numbered.command) ++ 0 ∷ []) (bytes_of new.store.cells)
@@ -118,13 +115,12 @@ pub record Rewrites (old new : Core) : Type 0 where
   pub writes_area : RewriteAdvances left.WriteArea area_settled None byte_written
   pub syncs_area : RewriteAdvances left.SyncArea byte_written None new
 
--- the rewrite leaves the bytes that the journal's commit leaves, given the earlier area byte, and the records are then one Add
--- per name
+-- the rewrite leaves the bytes that the journal's commit leaves, and the records are then one Add per name of the old map
 pub record LeavesCompacted (old new : Core) : Type 0 where
   pub bytes : IsCommitted (rewrite_of old.store old.library) (bytes_of old.store.cells) (bytes_of new.store.cells)
   pub holds : HoldsRecords (bytes_of new.store.cells) new.store.area (compacted old.library)
 
--- a command that goes into the order has a spelling: its name is a name and its unit a possible unit, as their types keep
+-- a command put into the order has a spelling: its name and its unit are possible ones, as their types guarantee
 abbrev pub PutsCommand : Core → Core → Type 0
 PutsCommand old new = (numbered : Numbered) → new.order ≡ old.order ++ numbered ∷ [] → IsCommand numbered.command
 
@@ -135,12 +131,11 @@ pub record IsOrderOf (bodies : List (List ℕ)) (order : List Numbered) (upcomin
   pub next : upcoming.value ≡ length order
 
 module _ {P : Type 0} where
-  -- a piece that a worker hands in keeps what its type keeps
+  -- a piece that a worker hands in has what its type keeps
   abbrev pub HandsIn : (P → Type 0) → Event P → Type 0
   HandsIn keeps event = (worker : WorkerId) (piece : P) → event ≡ events.Done worker piece → keeps piece
 
-  -- one turn of a run: an event that has a step takes it, and a command that it puts into the order has a spelling, as the types of names
-  -- and units keep; any other event leaves the state as it is
+  -- one turn of a run: an event that can take a step takes it, and a command put into the order has a spelling; else nothing changes
   abbrev pub Turn : Rules P → (P → Type 0) → Contents P → Event P → Contents P → Type 0
   Turn rules keeps old event new =
       ((reply : Option Reply) × Step rules old event reply new × PutsCommand old.core new.core × HandsIn keeps event) ⊎ (IsImpossible rules old event × (new ≡ old))
@@ -150,9 +145,9 @@ module _ {P : Type 0} where
   Run rules keeps old [] new = new ≡ old
   Run rules keeps old (event ∷ later) new = (mid : Contents P) × (Turn rules keeps old event mid × Run rules keeps mid later new)
 
-  -- A disk of any size was opened, with either area in use. Everything is settled, and the records of that area represent the
-  -- live map, which is the library of an order of some earlier commands. All of these are acknowledged. Nothing is required of
-  -- the units that were found.
+  -- A disk of any size was opened, with either area in use. Everything is settled, and the records of the area in use represent the live
+  -- map. The order consists of some earlier commands that lead to this map, all of them acknowledged. Nothing is required of the units
+  -- that were found.
   pub record IsOpened (new : Contents P) : Type 0 where
     pub phase : new.core.phase ≡ Idle
     pub library : new.core.library ≡ library_of (commands new.core.order)
@@ -169,11 +164,11 @@ module _ {P : Type 0} where
     pub stand : StandFor bodies new.core.library
     pub used : new.core.store.used ≡ length (records bodies)
 
-  -- a fresh disk or an opened one
+  -- a run begins here: on a fresh disk, or on an opened one
   abbrev pub IsBeginning : Contents P → Type 0
   IsBeginning new = ((area : ℕ) × IsStart area new) ⊎ IsOpened new
 
-  -- any piece at all; if this is "what pieces keep", workers may hand in whatever they like
+  -- this holds for any piece; if it is all that pieces keep, workers may hand in whatever they like
   abbrev pub IsAnyPiece : P → Type 0
   IsAnyPiece piece = Unit {0}
 
@@ -181,7 +176,7 @@ module _ {P : Type 0} where
   abbrev pub IsOfCrash : Event P → Type 0
   IsOfCrash event = ((choice : List ℕ) × (event ≡ events.Crash choice)) ⊎ (event ≡ events.Recover)
 
-  -- a command that begins has the source that its client handed in; a withdrawal has none
+  -- a command that begins has the source that its client handed in, or no source if it is a withdrawal
   abbrev pub PutsSource : Rules P → ClientId → Contents P → Contents P → Type 0
   PutsSource rules client old new =
       BeginsCommit rules client old None new → (job : Job P) × (numbered : Numbered) × (get old.jobs client.number ≡ Some job)

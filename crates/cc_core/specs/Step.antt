@@ -1,5 +1,4 @@
--- The protocol core, one step at a time: which reply an event may give in an old state, if any, and to which new state it may
--- lead.
+-- The protocol core, one step at a time: which reply an event may give in an old state, if any, and to which new state it may lead.
 use Rattle.std.specs.Prelude.{ℕ, ◌≡◌, ◌+◌, ◌<◌, ◌≤◌, ◌⊎◌, IsTrue, List, [], ◌∷◌, ◌++◌, length, map, take, slice_get, Option, Some, None, Result, Ok, Err}
 use Rattle.std.specs.Ordering.{nat_cmp}
 use Rattle.std.specs.FinMap.{FinMap, get, insert, remove, empty}
@@ -38,7 +37,7 @@ use Rattle.cc_core.specs.Job.{planned, IsPlanned, source_in, with_piece, all_the
 use Rattle.cc_core.specs.StoreState.{StoreState}
 use Rattle.cc_core.specs.Store.{IsFormatted, stepped, due_after, FailsTo, first_written, rewrite_of, rewrite_stepped, RewriteFailsTo, crashed_store}
 
--- the disk has not crashed: from a crash until the recovery nothing else happens
+-- the disk has not crashed, or has been recovered since
 abbrev pub IsUp : Phase → Type 0
 IsUp Idle = Unit {0}
 IsUp (Committing client numbered due) = Unit {0}
@@ -46,7 +45,7 @@ IsUp (Rewriting commit due) = Unit {0}
 IsUp (Failed failed) = Unit {0}
 IsUp Crashed = ⊥
 
--- a Begin may take its step if no other commit and no rewrite is under way; after a failed step it is refused
+-- a Begin may take its step: no commit and no rewrite is under way; after a failed device step its command is refused
 abbrev pub IsFree : Phase → Type 0
 IsFree Idle = Unit {0}
 IsFree (Committing client numbered due) = ⊥
@@ -58,7 +57,7 @@ IsFree Crashed = ⊥
 abbrev pub commands : List Numbered → List LibraryCommand
 commands order = map (λ numbered. numbered.command) order
 
--- the longest prefix of the order whose library is this one
+-- `kept` is the longest prefix of the order whose library is this one
 pub record IsLongest (library : Units) (order kept : List Numbered) : Type 0 where
   pub count : ℕ
   pub within : count ≤ length order
@@ -68,15 +67,15 @@ pub record IsLongest (library : Units) (order kept : List Numbered) : Type 0 whe
 
 -- ---- the commit, in the core only
 
--- one more Begin took a step
+-- the core once one more Begin has taken its step
 abbrev pub ticked : Core → Core
 ticked old = record old { upcoming = record { value = old.upcoming.value + 1 } }
 
--- a command is named by the sequence number of its Begin
+-- the command with the sequence number of the Begin that takes its step now
 abbrev pub numbered_now : Core → LibraryCommand → Numbered
 numbered_now old command = record { number = old.upcoming; command = command }
 
--- the result of a Begin: a refusal is the reply; a command goes last in the order, and the write of its body is due
+-- the result of a Begin: a refusal is the reply; a command is added at the end of the order, and the write of its body is due
 abbrev pub Begun : Core → ClientId → Result LibraryCommand Refusal → Option Reply → Core → Type 0
 Begun old client (Err refused) reply new = (reply ≡ Some (replies.Refused refused)) × (new ≡ ticked old)
 Begun old client (Ok command) reply new =
@@ -100,7 +99,7 @@ pub record Fails (client : ClientId) (old : Core) (reply : Option Reply) (new : 
   pub told : reply ≡ Some (replies.Refused refusal.DiskFault)
   pub new_is : new ≡ record old { store = store; phase = Failed (Some numbered) }
 
--- the reply is given for a command that is on the disk, and the library takes the command
+-- the reply is given for a command that is on the disk, and the command is carried out on the library
 pub record Acknowledges (client : ClientId) (old : Core) (reply : Option Reply) (new : Core) : Type 0 where
   pub numbered : Numbered
   pub committing : old.phase ≡ Committing client numbered due.Acknowledge
@@ -115,8 +114,7 @@ pub record Acknowledges (client : ClientId) (old : Core) (reply : Option Reply) 
 
 -- Between two commits, if the shortest journal of the live map fits in an area, the first write of a rewrite is done: its records
 -- and their closed gate are written to the area that is not in use. A write that fails or is torn needs no case of its own: it is
--- this step followed by the failure of the sync or by a crash, since the range of the write is unsettled, and nothing was due
--- before it.
+-- this step followed by a failed sync or a crash, since the range of the write is unsettled, and nothing was due before it.
 pub record RewritesAll (old : Core) (reply : Option Reply) (new : Core) : Type 0 where
   pub idle : old.phase ≡ Idle
   pub fits : room_of (compacted old.library) ≤ old.store.area
@@ -139,8 +137,7 @@ pub record RewriteAdvances (due : RewriteDue) (old : Core) (reply : Option Reply
   pub silent : reply ≡ None
   pub new_is : new ≡ record old { store = rewrite_stepped due commit old.store; phase = phase_after commit due }
 
--- the device step that is due in a rewrite fails: no job is in commit that could end, so there is no reply, and no further device
--- step is made
+-- the device step that is due in a rewrite fails: no job is in commit, so there is no reply, and no further device step is made
 pub record RewriteFails (old : Core) (reply : Option Reply) (new : Core) : Type 0 where
   pub commit : Commit
   pub due : RewriteDue
@@ -157,8 +154,7 @@ pub record Crashes (choice : List ℕ) (old : Core) (reply : Option Reply) (new 
   pub silent : reply ≡ None
   pub new_is : new ≡ record old { library = empty; phase = Crashed; store = crashed_store choice old.store }
 
--- the library is opened: the live map is what the disk's records represent, in the area that the area byte names; what is kept of
--- the order is the longest prefix that leads to that map
+-- the library is opened: the live map is that of the records in the named area; the order is cut to its longest prefix with that map
 pub record Reopens (old : Core) (reply : Option Reply) (new : Core) : Type 0 where
   pub crashed : old.phase ≡ Crashed
   pub bodies : List (List ℕ)
@@ -178,7 +174,7 @@ pub record Reopens (old : Core) (reply : Option Reply) (new : Core) : Type 0 whe
 -- ---- the core together with jobs and workers
 
 module _ {P : Type 0} where
-  -- nothing has happened yet, and the disk is formatted, with areas of that size
+  -- nothing has happened yet, and the disk is formatted, with areas of `area` bytes
   pub record IsStart (area : ℕ) (new : Contents P) : Type 0 where
     pub library : new.core.library ≡ empty
     pub order : new.core.order ≡ []
@@ -210,7 +206,7 @@ module _ {P : Type 0} where
       workers = insert old.workers worker.number (record { client = client; part = part });
     }
 
-  -- a busy worker hands in the piece that it took: a value that names that job's source and that piece
+  -- a busy worker hands in the piece that it took: a value that names the job's source and the index of that piece
   pub record Finishes (rules : Rules P) (worker : WorkerId) (piece : P) (old : Contents P) (reply : Option Reply) (new : Contents P) : Type 0 where
     pub work : Work
     pub job : Job P
@@ -236,12 +232,12 @@ module _ {P : Type 0} where
       workers = remove old.workers worker.number;
     }
 
-  -- the jobs after a Begin: if the job was refused, it ends
+  -- the jobs after a Begin: a refused job has ended
   abbrev pub jobs_begun : FinMap nat_cmp (Job P) → ClientId → Result LibraryCommand Refusal → FinMap nat_cmp (Job P)
   jobs_begun jobs client (Ok command) = jobs
   jobs_begun jobs client (Err refused) = remove jobs client.number
 
-  -- a job whose pieces are all there begins, if no other command is in commit and no rewrite is under way
+  -- a job whose pieces have all been answered begins, if no other command is in commit and no rewrite is under way
   pub record BeginsCommit (rules : Rules P) (client : ClientId) (old : Contents P) (reply : Option Reply) (new : Contents P) : Type 0 where
     pub job : Job P
     pub free : IsFree old.core.phase
@@ -277,7 +273,7 @@ module _ {P : Type 0} where
     pub jobs : new.jobs ≡ empty
     pub workers : new.workers ≡ empty
 
-  -- the step that an event takes; "no reply" is one of the replies
+  -- the step that an event takes, possibly without a reply
   abbrev pub Step : Rules P → Contents P → Event P → Option Reply → Contents P → Type 0
   Step rules old (event.Submit client call request) reply new = Submits rules client call request old reply new
   Step rules old (event.Take worker client part) reply new = Takes worker client part old reply new

@@ -1,6 +1,6 @@
 -- The disk of the core: a journal in one of the disk's areas, written step by step. The device steps of a command, and those of a
 -- rewrite, are the steps of one commit of the journal: a first write, whose bytes do not count yet; a sync; the write of the one
--- byte that decides; and a sync.
+-- byte that puts them in force; and a sync.
 use Rattle.std.specs.Prelude.{◌≡◌, ℕ, ◌+◌, ◌-◌, ◌*◌, List, [], ◌∷◌, ◌++◌, length}
 use Rattle.cc_disk.specs.Model.{Cell, bytes_of, IsImage, written, synced, crashed}
 use Rattle.cc_disk.specs.Images.{LeavesAlone}
@@ -35,40 +35,40 @@ gate_of store = area_begin store.area_byte store.area + store.used
 abbrev pub room_taken : StoreState → List ℕ → ℕ
 room_taken store body = store.used + (length body + 6)
 
--- the disk with other cells
+-- the disk with these cells
 abbrev pub with_cells : StoreState → List Cell → StoreState
 with_cells store cells = record store { cells = cells }
 
 -- ---- the steps of a journal's commit
 
--- the first write of a commit: its bytes, from its offset on
+-- the disk after the first write of a commit: its bytes, written at its offset
 abbrev pub first_written : Commit → StoreState → StoreState
 first_written commit store = with_cells store (written store.cells commit.offset commit.bytes)
 
--- the second write of a commit: the byte that decides
+-- the disk after the second write of a commit: that of the deciding byte
 abbrev pub decided : Commit → StoreState → StoreState
 decided commit store = with_cells store (written store.cells commit.deciding_offset (commit.deciding_byte ∷ []))
 
--- a sync settles every byte
+-- the disk after a sync, which settles every byte
 abbrev pub settled_all : StoreState → StoreState
 settled_all store = with_cells store (synced store.cells)
 
--- if the first write fails, it leaves any bytes in its range, unsettled
+-- a failed first write leaves arbitrary bytes in its range, unsettled
 abbrev pub FirstFails : Commit → StoreState → StoreState → Type 0
 FirstFails commit old new = (bytes : List ℕ) × (length bytes ≡ length commit.bytes) × (new ≡ with_cells old (written old.cells commit.offset bytes))
 
--- if the second write fails, it leaves any byte there, unsettled
+-- a failed second write leaves an arbitrary byte at its offset, unsettled
 abbrev pub DecidingFails : Commit → StoreState → StoreState → Type 0
 DecidingFails commit old new = (byte : ℕ) × (new ≡ with_cells old (written old.cells commit.deciding_offset (byte ∷ [])))
 
 -- ---- the steps of a command
 
--- the commit that puts the record of a command after the last one
+-- the commit that appends the record of a command
 abbrev pub append_of : StoreState → LibraryCommand → Commit
 append_of store command = append_commit (gate_of store) (body_of command)
 
--- the disk after the step that was due: the body, with the next gate, closed, is written; both are synced; the record's own gate
--- is written open; it is synced, and the record belongs to the journal
+-- the disk after the step that was due: the body and a closed gate after it are written; both are synced; the record's own gate
+-- is written as open; this gate is synced, and the record belongs to the journal
 abbrev pub stepped : Due → LibraryCommand → StoreState → StoreState
 stepped WriteBody command store = first_written (append_of store command) store
 stepped SyncBody command store = settled_all store
@@ -76,7 +76,7 @@ stepped WriteGate command store = decided (append_of store command) store
 stepped SyncGate command store = record store { cells = synced store.cells; used = store.used + (length (body_of command) + 5) }
 stepped Acknowledge command store = store
 
--- what is due next
+-- what is due after this step of a commit
 abbrev pub due_after : Due → Due
 due_after WriteBody = SyncBody
 due_after SyncBody = WriteGate
@@ -84,8 +84,8 @@ due_after WriteGate = SyncGate
 due_after SyncGate = Acknowledge
 due_after Acknowledge = Acknowledge
 
--- what the step that was due leaves if it fails: a write leaves any bytes in its range, unsettled; a sync changes nothing; a
--- reply is not a step of the device
+-- what the step that was due leaves if it fails: a write leaves arbitrary bytes in its range, unsettled; a sync changes nothing; a reply is
+-- not a device step
 abbrev pub FailsTo : Due → LibraryCommand → StoreState → StoreState → Type 0
 FailsTo WriteBody command old new = FirstFails (append_of old command) old new
 FailsTo SyncBody command old new = new ≡ old
@@ -99,14 +99,14 @@ FailsTo Acknowledge command old new = ⊥
 abbrev pub rewrite_of : StoreState → Units → Commit
 rewrite_of store library = rewrite_commit store.area_byte store.area (compacted library)
 
--- the disk after the step of a rewrite that was due: the new area is synced; the area byte is written; it is synced, and the new
--- area is in use, with the records that were written there, which are all of the bytes but the closed gate after them
+-- the disk after the step that was due in a rewrite: the new area is synced; the area byte is written; the area byte is synced,
+-- the new area is in use, and all bytes written there but the closed gate belong to records
 abbrev pub rewrite_stepped : RewriteDue → Commit → StoreState → StoreState
 rewrite_stepped SyncAll commit store = settled_all store
 rewrite_stepped WriteArea commit store = decided commit store
 rewrite_stepped SyncArea commit store = record store { cells = synced store.cells; area_byte = commit.deciding_byte; used = length commit.bytes - 1 }
 
--- what the step of a rewrite that was due leaves if it fails
+-- what the step that was due in a rewrite leaves if it fails
 abbrev pub RewriteFailsTo : RewriteDue → Commit → StoreState → StoreState → Type 0
 RewriteFailsTo SyncAll commit old new = new ≡ old
 RewriteFailsTo WriteArea commit old new = DecidingFails commit old new

@@ -1,4 +1,4 @@
--- How a run can go on: which steps are turns of it, what they leave unchanged, and how a client's job is handed in and made ready to begin.
+-- How a run can go on: which steps are turns, what they leave unchanged, and how a client's job is handed in and made ready to begin.
 use Rattle.std.specs.Prelude.{ℕ, ◌≡◌, ◌≤◌, IsTrue, List, Some, None, Ok}
 use Rattle.std.specs.FinMap.{get}
 use Rattle.cc_library.specs.Change.{LibraryCommand}

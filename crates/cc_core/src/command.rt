@@ -31,7 +31,7 @@ impl Numbered {
     }
 }
 
-/// The answer to a client: done, or why it is refused.
+/// The answer to a client: that its command is done, or why it is refused.
 #[derive(Drop)]
 pub enum Reply {
     Done,

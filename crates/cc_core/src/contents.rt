@@ -14,7 +14,7 @@ use cc_library::UnitMap;
 /// What comes next in a commit: a device step, or the reply.
 #[derive(Drop)]
 pub enum Due {
-    /// The write of the record's body, and of the closed gate after it.
+    /// The write of the record's body and of a closed gate after it.
     WriteBody,
     /// The sync that settles the body and that closed gate.
     SyncBody,
@@ -26,14 +26,14 @@ pub enum Due {
     Acknowledge,
 }
 
-/// What comes next in a rewrite after its first write: one of the three other device steps.
+/// What comes next in a rewrite after its first write: one of the other three device steps.
 #[derive(Drop)]
 pub enum RewriteDue {
     /// The sync that settles the new area.
     SyncAll,
     /// The write of the area byte.
     WriteArea,
-    /// The sync that settles the gate.
+    /// The sync that settles the area byte.
     SyncArea,
 }
 
@@ -42,12 +42,12 @@ pub enum RewriteDue {
 pub enum Phase {
     /// No command is in commit, no rewrite is under way, and the disk is usable.
     Idle,
-    /// This client's command is in commit, and this step is due next.
+    /// The command of a client is in commit, and a step of the commit is due next.
     Committing(ClientId, Numbered, Due),
-    /// The records are being rewritten by this commit of the journal, and this step is due next.
+    /// The records are being rewritten by a commit of the journal, and a step of the rewrite is due next.
     Rewriting(Commit, RewriteDue),
-    /// A device step has failed: one of this command's, if a command was in commit. No further device step is made until the
-    /// library is opened again.
+    /// A device step has failed. If a command was in commit, it is kept here. No further device step is made until the library is
+    /// opened again.
     Failed(Option<Numbered>),
     /// The disk has crashed, and the library has to be opened.
     Crashed,

@@ -19,7 +19,7 @@ use cc_journal::Commit;
 use cc_library::{LibraryCommand, body_length, body_of_command};
 use std::alloc::{AllocError, Global};
 
-// The commit that puts the record of a command after the last one.
+// The commit that appends the record of a command to the journal.
 fn append_of(alloc: Global, store: &Store, command: &LibraryCommand) -> Result<Commit, AllocError>
     requires { IsFitting store.now command.now }
     ensures commit { IfOk result (λ commit. commit ≡ append_of store.now command.now) }
@@ -59,7 +59,7 @@ pub(crate) fn sync_body(core: &mut Core) -> Answer
     Ok(None)
 }
 
-// Writes the gate open.
+// Writes the record's gate as open.
 pub(crate) fn write_gate(alloc: Global, core: &mut Core) -> Answer
     requires { IsReady core.old }
     ensures { Answers (Advances due.WriteGate core.old) result core.old core.new }
@@ -95,7 +95,8 @@ pub(crate) fn sync_gate(core: &mut Core) -> Answer
     Ok(None)
 }
 
-// The device step that is due in a commit fails. If it is a write, all its bytes have reached the disk, unsettled.
+// The device step that is due in a commit fails. If that step is a write, all its bytes are on the disk, but
+// unsettled.
 fn fail_core(alloc: Global, core: &mut Core, client: ClientId) -> Answer
     requires { IsReady core.old }
     ensures { Answers (Fails client core.old) result core.old core.new }

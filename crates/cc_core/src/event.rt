@@ -16,32 +16,32 @@ pub enum Event<P> {
     Done(WorkerId, P),
     /// A worker refuses the piece that it took. Fields: worker, number.
     Refuse(WorkerId, u32),
-    /// A client's job begins its commit; all its pieces are there.
+    /// A client's job whose pieces have all been answered begins its commit.
     Begin(ClientId),
     /// The first device step of the commit: the record's body is written, with the closed gate after it.
     WriteBody,
     /// The second device step of the commit: the body and that gate are synced.
     SyncBody,
-    /// The third: the record's own gate is written open.
+    /// The third device step of the commit: the record's own gate is written as open.
     WriteGate,
-    /// The fourth: that gate is synced.
+    /// The fourth device step of the commit: the record's own gate is synced.
     SyncGate,
     /// The first device step of a rewrite, between two commits: the records of the map, one Add per name, are written to the area
     /// that is not in use, with a closed gate after them.
     RewriteAll,
-    /// The second device step of the commit: the body and that gate are synced.
+    /// The second device step of a rewrite: those records and that gate are synced.
     SyncAll,
-    /// The third: the area byte is written.
+    /// The third device step of a rewrite: the area byte is written.
     WriteArea,
-    /// The fourth: that gate is synced.
+    /// The fourth device step of a rewrite: the area byte is synced.
     SyncArea,
     /// The device step that is due in a commit or in a rewrite fails.
     Fail,
     /// The reply is given to the client whose command is in commit, after all four steps.
     Ack(ClientId),
-    /// The disk crashes. At each unsettled offset `i` it is left with byte `i` of this choice, or with 0 if the choice is
-    /// shorter. After the event of a write this is a crash within that write; before the event of a sync, it is a crash within
-    /// that sync.
+    /// The disk crashes. At each unsettled offset `i` it is left with byte `i` of this choice, or with 0 if the choice is shorter. A
+    /// crash after the event of a write stands for a crash within that write, and a crash before the event of a sync for a crash
+    /// within that sync.
     Crash(Sequence<u8>),
     /// The library is opened after a crash.
     Recover,

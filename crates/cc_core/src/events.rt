@@ -30,7 +30,7 @@ use crate::rewriting::{fail, rewrite_all, sync_all, sync_area, write_area};
 use cc_library::{LibraryCommand, SharedUnit, UnitMap, body_length};
 use std::alloc::{AllocError, Global};
 
-/// What an event answers: a reply or none. It fails with 29 if the event is not possible, and with 40 if memory ran out.
+/// What an event answers: a reply, or no reply. It fails with 29 if the event is not possible, and with 40 if memory ran out.
 pub(crate) type Answer = Result<Option<Reply>, CoreFault>;
 
 // The number of pieces of a request, or the number that refuses the request.
@@ -131,7 +131,7 @@ pub(crate) fn take<P: Drop>(
     Ok(None)
 }
 
-// Whether a piece names the source that a request hands in, and this part of it.
+// Whether a piece names the source that a request hands in, and names this part of that source.
 fn names_part<B: Build>(build: &B, request: &Request, piece: &B::Piece, part: PartIndex) -> bool
     ensures named { IsTrue result ↔ ((source_in request.now ≡ Some (B.rules.source_of piece.now)) × (B.rules.part_of piece.now ≡ part.index)) }
     ensures kept { IsTrue result → B.keeps piece.now }
@@ -144,7 +144,7 @@ fn names_part<B: Build>(build: &B, request: &Request, piece: &B::Piece, part: Pa
     }
 }
 
-// Sets what a worker has made of the piece that it took, and makes the worker idle.
+// Sets the progress of the piece that a worker took, and makes the worker idle.
 fn settle<P: Drop>(contents: &mut Contents<P>, worker: WorkerId, work: Work, progress: Progress<P>)
     ensures { (job : Job P) → table.get contents.old.jobs work.client.number ≡ Some job
         → contents.new ≡ record contents.old {
@@ -193,7 +193,7 @@ pub(crate) fn refuse<P: Drop>(contents: &mut Contents<P>, worker: WorkerId, numb
     Ok(None)
 }
 
-// The unit of a job's source, or the first number that refuses it.
+// The unit built from a job's source, or the first number that refuses the source or a piece.
 fn build_unit<B: Build>(
     build: &B,
     alloc: Global,
@@ -214,7 +214,7 @@ fn build_unit<B: Build>(
     Ok(SharedUnit::new(unit))
 }
 
-// The command of a job, or the number that refuses it before the library is asked.
+// The command of a job, or the number that refuses the job before the library is asked.
 fn make_command<B: Build>(
     build: &B,
     alloc: Global,
@@ -238,7 +238,7 @@ fn make_command<B: Build>(
     }
 }
 
-// Why the map refuses a command, if it does.
+// Why the map refuses a command, or `None` if it does not.
 fn map_refusal(library: &UnitMap, command: &LibraryCommand) -> Option<Refusal>
     ensures { result ≡ map_refusal library.now command.now }
 {
@@ -257,8 +257,8 @@ fn map_refusal(library: &UnitMap, command: &LibraryCommand) -> Option<Refusal>
     None
 }
 
-// Why a command is refused, if it is: first 36, then 31 or 32, then 34. Only the length of the command's body is needed, so no
-// body is made if there is no room for it.
+// Why a command is refused, if it is: 36 is tried first, then 31 or 32, then 34. The last test needs only the length of the
+// command's body, so a body that does not fit is never made.
 fn refusal_of(core: &Core, command: &LibraryCommand) -> Option<Refusal>
     ensures refusal { result ≡ command_refusal core.now.phase core.now.library core.now.store command.now }
     ensures spelled { result ≡ None → IsCommand command.now }
@@ -302,7 +302,7 @@ fn decide<B: Build>(
     }
 }
 
-// Puts a command last in the order. It is then in commit for this client.
+// Adds a command at the end of the order. The command is then in commit for this client.
 fn put_in_order(
     core: &mut Core,
     client: ClientId,
@@ -328,7 +328,7 @@ fn put_in_order(
     Ok(())
 }
 
-// Whether a Begin may take its step. After a failed step it may, and is refused.
+// Whether a Begin may take its step. After a failed device step it may, but its command is then refused.
 fn is_free(phase: &Phase) -> bool
     ensures { IsTrue result ↔ IsFree phase.now }
 {
@@ -338,7 +338,7 @@ fn is_free(phase: &Phase) -> bool
     }
 }
 
-// A job whose pieces are all there begins, if no other command is in commit and no rewrite is under way.
+// A job whose pieces have all been answered begins, if no other command is in commit and no rewrite is under way.
 pub(crate) fn begin<B: Build>(
     build: &B,
     alloc: Global,
@@ -370,7 +370,7 @@ pub(crate) fn begin<B: Build>(
     }
 }
 
-// The reply is given to the client whose command is in commit, and the library takes the command.
+// The reply is given to the client whose command is in commit, and the command is carried out on the library.
 fn acknowledge_core(core: &mut Core, client: ClientId) -> Answer
     ensures { Answers (Acknowledges client core.old) result core.old core.new }
 {
@@ -405,8 +405,8 @@ pub(crate) fn acknowledge<P: Drop>(contents: &mut Contents<P>, client: ClientId)
     }
 }
 
-/// Takes the step of one event, and answers its reply, if it gives one. Fails with 29 if the event is not possible, and with 40
-/// if memory ran out; the contents are then as before.
+/// Takes the step of one event, and answers the reply, if the event gives one. Fails with 29 if the event is not possible, and
+/// with 40 if memory ran out; the contents are then as before.
 pub(crate) fn take_step<B: Build>(
     build: &B,
     alloc: Global,

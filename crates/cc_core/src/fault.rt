@@ -1,4 +1,5 @@
-// Why an event takes no step, why a command is refused, and why a build makes nothing. Each reason has its number.
+// Why an event takes no step, why a command is refused, and why a build gives no plan or no unit. Each reason has
+// its number.
 
 ghost use Rattle.std.specs.Prelude.{◌≡◌};
 
@@ -46,10 +47,10 @@ pub enum Refusal {
     /// The build refuses the source or its pieces with this number.
     #[error("Build")]
     Build(u32),
-    /// 31: a unit of the name to be added is there already.
+    /// 31: the library already has a unit under the name to be added.
     #[error("Exists")]
     Exists,
-    /// 32: no unit of the name to be replaced or withdrawn is there.
+    /// 32: the library has no unit under the name to be replaced or withdrawn.
     #[error("Absent")]
     Absent,
     /// 34: the record does not fit in the area.
@@ -58,7 +59,7 @@ pub enum Refusal {
     /// 35: the device step that was due failed.
     #[error("DiskFault")]
     DiskFault,
-    /// 36: a device step has failed, and the disk was not opened again.
+    /// 36: a device step has failed, and the disk has not been opened since.
     #[error("Closed")]
     Closed,
 }

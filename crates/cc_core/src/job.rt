@@ -15,13 +15,13 @@ use std::alloc::{AllocError, Global};
 /// How far a piece of a job has come.
 #[derive(Drop)]
 pub enum Progress<P> {
-    /// No worker has taken it.
+    /// No worker has taken the piece.
     Waiting,
-    /// A worker has it.
+    /// A worker has taken the piece and not answered it yet.
     Taken,
     /// A worker made this piece.
     Made(P),
-    /// A worker refused it, with this number.
+    /// A worker refused the piece with this number.
     Refused(u32),
 }
 
@@ -53,7 +53,7 @@ impl<P> Progress<P> {
     }
 }
 
-// Whether every piece has been answered.
+// Whether a worker has answered every piece.
 pub(crate) fn are_all_there<P>(pieces: &[Progress<P>]) -> bool
     ensures { result ≡ all_there pieces.now }
 {
@@ -72,7 +72,7 @@ pub(crate) fn least_refused<P>(pieces: &[Progress<P>]) -> Option<u32>
     None
 }
 
-// The pieces that were made, in their order.
+// The pieces that were made, in order.
 pub(crate) fn all_made<P>(alloc: Global, pieces: &[Progress<P>]) -> Result<Vec<&P>, AllocError>
     ensures { IfOk result (λ made. map (λ piece. piece.now) made.items ≡ made_pieces pieces.now) }
 {

@@ -19,12 +19,12 @@ ghost use Rattle.cc_core.specs.Turns.{BeginsSpelled, IsNoSubmit, IsNoTake, CanBe
 
 use crate::build::Build;
 
-/// These clauses hold for any rules by which units are made, any pieces that workers hand in, and any events, from a fresh disk
-/// or from an opened one with any units on it. The only condition is that each command that goes into the order has a spelling,
-/// as the types of names and units keep. Whatever a crash leaves of the disk survives, and the live map is what the order gives.
-/// In a crashed state the recovery is possible, and nothing else but another crash. A commit leaves exactly the bytes of its
-/// record. Between two commits a rewrite is always possible, since it never takes more room than the records do, and it leaves
-/// one Add per name.
+/// These clauses hold for any rules by which units are made, any pieces that workers hand in, and any events, from a fresh disk or from
+/// an opened one with any units on it. The only condition is that each command put into the order has a spelling, which the types of
+/// names and units guarantee. Whatever a crash leaves of the disk survives, and the live map is what the order gives. In a crashed
+/// state only the recovery and another crash are possible, and the recovery always is. A commit leaves exactly the bytes of its record.
+/// Between two commits a rewrite is always possible, since it never takes more room than the records do, and it leaves one Add per
+/// name.
 pub fn survival_law<B: Build>()
     ensures survives { (first new : Contents B.Piece) (events : List (Event B.Piece))
         → IsBeginning first → Run B.rules IsAnyPiece first events new → EachImageSurvives new.core }
@@ -45,8 +45,8 @@ pub fn survival_law<B: Build>()
         → IsBeginning first → Run B.rules IsAnyPiece first events new → Rewrites new.core after → LeavesCompacted new.core after }
 {}
 
-/// What holds if each piece keeps what its type keeps. Whatever a crash leaves of the disk survives. Each of its units is right,
-/// or is one of those found at the opening; so all units are right if those were. A command that begins has the source that was
+/// What holds if each piece keeps what its type keeps. Whatever a crash leaves of the disk survives. Each unit on it is right, or was
+/// found at the opening, so all units are right if those found at the opening were. A command that begins has the source that was
 /// handed in.
 pub fn crash_law<B: Build>()
     ensures survives { (first new : Contents B.Piece) (events : List (Event B.Piece))
@@ -61,8 +61,8 @@ pub fn crash_law<B: Build>()
     survival_law::<B>();
 }
 
-/// What a command does to the units of a map. If each unit is right, and the command's unit is too, each is right after the
-/// command; the same holds for "right, or found in a base". The empty map has no units.
+/// What a command does to the units of a map. If the command's unit and each unit of the map are right, each unit is right after the
+/// command. The same holds for units that are right or found in a base. The empty map has no units.
 pub fn units_law<B: Build>()
     ensures right { (library : Units) (command : LibraryCommand)
         → EachUnit B.is_right library → IsRightCommand B.is_right command → EachUnit B.is_right (after library command) }
@@ -71,10 +71,10 @@ pub fn units_law<B: Build>()
     ensures none { EachUnit B.is_right empty }
 {}
 
-/// How a run can go on. Each step of an event is a turn of a run, if a piece that is handed in keeps what its type keeps, and a
-/// command that goes into the order has a spelling. A run can be continued by another. Only a Submit gives a client a job, and
-/// only a Take gives a worker a piece. Unless the disk has crashed, a client without a job can hand in the request for any
-/// command whose unit some pieces give, and an idle worker can make it ready.
+/// How a run can go on. Each step of an event is a turn of a run, if each piece handed in has what its type keeps, and each command put
+/// into the order has a spelling. A run can be continued by another. Only a Submit gives a client a job, and only a Take gives a worker
+/// a piece. Unless the disk has crashed, a client without a job can hand in the request for any command whose unit can be built from
+/// pieces, and an idle worker can then make the job ready to begin.
 pub fn turn_law<B: Build>()
     ensures turn { (old new : Contents B.Piece) (event : Event B.Piece) (reply : Option Reply)
         → Step B.rules old event reply new → HandsIn B.keeps event → BeginsSpelled B.rules old event → Turn B.rules B.keeps old event new }

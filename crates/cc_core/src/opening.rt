@@ -25,8 +25,8 @@ pub(crate) struct Found {
     pub used: usize,
 }
 
-/// The beginning of a run on an opened disk: the disk, settled; the map that its records represent; their commands, numbered from 0 on, all
-/// of which are acknowledged; and the number of the next Begin.
+/// The beginning of a run on an opened disk: the disk, settled; the map that its records represent; the commands of these records, numbered
+/// from 0 on and all acknowledged; and the number of the next Begin.
 #[derive(Drop)]
 pub(crate) struct Opened {
     pub store: Store,
@@ -36,8 +36,8 @@ pub(crate) struct Opened {
     pub upcoming: SequenceNumber,
 }
 
-/// Opens the journal of a disk, and carries out the commands of its records one after the other. Refuses for the same reasons as
-/// opening a library does, and hands the disk back.
+/// Opens the journal of a disk, and carries out the commands of its records in order. Refuses for the same reasons as opening a library
+/// does, and then hands the disk back.
 pub(crate) fn find(alloc: Global, disk: MemoryDisk) -> Result<Found, (LibraryFault, MemoryDisk)>
     ensures answer { IfOk result (λ found.
         IsFound (bytes_of disk.cells) found.journal.area found.journal.bodies found.library found.used) }
@@ -89,8 +89,8 @@ fn again(alloc: Global, order: &[Numbered]) -> Result<Sequence<Numbered>, AllocE
     Ok(copy)
 }
 
-// The commands that these records spell, numbered from 0 on; the same commands again, as the acknowledged ones; and the number
-// after the last of theirs. If each record spells a command, the only refusal is lack of memory.
+// The commands that these records spell, numbered from 0 on; a copy of them, as the acknowledged ones; and the number after that of the
+// last. If each record spells a command, the only refusal is out of memory.
 fn read_order(
     alloc: Global,
     bodies: &[Body],
@@ -114,7 +114,7 @@ fn read_order(
     Ok((order, acknowledged, upcoming))
 }
 
-/// Opens a disk as the beginning of a run. Refuses for the same reasons as opening a library does, and hands the disk back.
+/// Opens a disk as the beginning of a run. Refuses for the same reasons as opening a library does, and then hands the disk back.
 pub(crate) fn open(alloc: Global, disk: MemoryDisk) -> Result<Opened, (LibraryFault, MemoryDisk)>
     ensures answer { IfOk result (λ opened. IsOpenedAt (bytes_of disk.cells) opened) }
     ensures refused { IfErr result (λ e. OpenFaults true (bytes_of disk.cells) 0 0 e.0) }
@@ -129,7 +129,7 @@ pub(crate) fn open(alloc: Global, disk: MemoryDisk) -> Result<Opened, (LibraryFa
         Ok(found) => found,
         Err(refused) => return Err(refused),
     };
-    // The records were replayed, so each is a command.
+    // The records have been replayed, so each spells a command.
     match read_order(alloc, journal.records()) {
         Ok((order, acknowledged, upcoming)) => Ok(Opened {
             store: Store::of_disk(journal.into_disk(), used),

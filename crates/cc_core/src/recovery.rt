@@ -44,7 +44,7 @@ pub(crate) fn crash<P: Drop>(
     }
 }
 
-// Whether this command is in effect in the map: the map is as the command leaves it.
+// Whether this command is in effect in the map, that is, the map is as the command leaves it.
 fn is_in_effect(library: &UnitMap, command: &LibraryCommand) -> bool
     ensures { IsTrue result ↔ IsInEffect library.now command.now }
 {

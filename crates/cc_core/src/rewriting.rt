@@ -1,5 +1,5 @@
-// The device steps of a rewrite, and their failure. All that these steps write is one commit of the journal, which is made before
-// the first step.
+// The device steps of a rewrite, and their failure. Together these steps carry out one commit of the journal, which is made
+// before the first of them.
 
 ghost use Rattle.cc_core.specs.declared.contents.Contents.{Contents};
 ghost use Rattle.cc_core.specs.declared.contents.RewriteDue.TheVariants as left;
@@ -13,8 +13,8 @@ use crate::events::Answer;
 use crate::fault::CoreFault;
 use std::alloc::Global;
 
-// Makes the first write: one Add per name, and a closed gate after them, to the area that is not in use. They always fit, since
-// they never take more room than the records that represent the map.
+// Makes the first write, to the area that is not in use: one Add per name, and a closed gate after them. These records always
+// fit, since they never take more room than those that represent the map now.
 pub(crate) fn rewrite_all(alloc: Global, core: &mut Core) -> Answer
     requires { IsReady core.old }
     ensures { Answers (RewritesAll core.old) result core.old core.new }
@@ -59,7 +59,7 @@ pub(crate) fn write_area(core: &mut Core) -> Answer
     Ok(None)
 }
 
-// Syncs the area byte: the other area is now in use, and its records are the journal's.
+// Syncs the area byte: the other area is now in use, and its records are now the journal's.
 pub(crate) fn sync_area(core: &mut Core) -> Answer
     requires { IsReady core.old }
     ensures { Answers (RewriteAdvances left.SyncArea core.old) result core.old core.new }
@@ -78,7 +78,7 @@ pub(crate) fn sync_area(core: &mut Core) -> Answer
     Ok(None)
 }
 
-// The device step that is due in a rewrite fails. If it is a write, all its bytes have reached the disk, unsettled.
+// The device step that is due in a rewrite fails. If that step is a write, all its bytes are on the disk, but unsettled.
 fn fail_rewrite(core: &mut Core) -> Answer
     requires { IsReady core.old }
     ensures { Answers (RewriteFails core.old) result core.old core.new }

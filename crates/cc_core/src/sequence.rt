@@ -1,4 +1,4 @@
-// A list that contracts see as a list.
+// A list of values in a `Vec`; contracts see only the values.
 
 ghost use Rattle.std.specs.Prelude.{◌≡◌, ◌<◌, ◌++◌, ◌∷◌, [], List, length, slice_set, slice_get, take, ◌-◌, OnOk, OnErr};
 ghost use Rattle.std.specs.Option.{option_copied};
@@ -6,7 +6,8 @@ ghost use Rattle.std.specs.Option.{option_copied};
 use std::alloc::AllocError;
 use std::marker::Model;
 
-/// A list of values, which contracts see as a list. It is made from a `Vec` and gives it back.
+/// A list of values. Contracts see the values in order. It is made from a `Vec`, and can be turned back into
+/// one.
 #[derive(Drop)]
 pub struct Sequence<T> {
     items: Vec<T>,
@@ -21,14 +22,14 @@ impl<T> Model for Sequence<T> {
 }
 
 impl<T> Sequence<T> {
-    /// Makes the list of the items of a `Vec`, in the same order. It takes no memory.
+    /// Makes the list of the items of a `Vec`, in the same order. Allocates nothing.
     pub fn new(items: Vec<T>) -> Sequence<T>
         ensures { result ≡ items.items }
     {
         Sequence { items }
     }
 
-    /// The `Vec` with the items. It takes no memory.
+    /// The `Vec` with the items. Allocates nothing.
     pub fn into_vec(self) -> Vec<T>
         ensures { result.items ≡ self }
     {
@@ -52,7 +53,7 @@ impl<T> Sequence<T> {
 }
 
 impl<T: Drop> Sequence<T> {
-    /// Puts an item last. If memory runs out, the list stays as it was.
+    /// Adds an item at the end. If memory runs out, the list stays as it was.
     pub(crate) fn push(&mut self, item: T) -> Result<(), AllocError>
         ensures ok { OnOk result (self.new ≡ self.old ++ item ∷ []) }
         ensures err { OnErr result (self.new ≡ self.old) }
@@ -68,7 +69,7 @@ impl<T: Drop> Sequence<T> {
         let _ = self.items.pop();
     }
 
-    /// Puts an item at an index; an index past the end changes nothing.
+    /// Replaces the item at an index; an index past the end changes nothing.
     pub(crate) fn set(&mut self, index: usize, item: T)
         ensures { self.new ≡ slice_set self.old index item }
     {

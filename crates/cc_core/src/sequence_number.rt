@@ -1,4 +1,4 @@
-// A number that only contracts see. It distinguishes commands that ask for the same thing.
+// A number that only contracts see. It tells apart commands that ask for the same thing.
 
 ghost use Rattle.std.specs.Prelude.{◌≡◌, ℕ, ◌+◌};
 ghost use Rattle.std.specs.Borrow.{ftrue};
@@ -6,7 +6,7 @@ ghost use Rattle.std.specs.Borrow.{ftrue};
 use std::marker::Model;
 
 /// The sequence number of a Begin among those that took a step, counted from 0. Only contracts see it, as `value`, which has no
-/// upper limit. At run time it takes no bytes.
+/// upper limit. At run time a sequence number has no bytes.
 #[derive(Drop)]
 pub struct SequenceNumber {
     pub ghost value: { ℕ },
@@ -18,7 +18,7 @@ impl Model for SequenceNumber {
 }
 
 impl SequenceNumber {
-    /// The number of the first event.
+    /// The sequence number of the first Begin.
     pub(crate) fn first() -> SequenceNumber
         ensures { result ≡ record { value = 0 } }
     {

@@ -33,14 +33,14 @@ use cc_library::{LibraryFault, UnitMap};
 use std::alloc::{AllocError, Global};
 use std::marker::Model;
 
-/// The protocol core with a build and a disk in memory. Contracts see its contents. Its type keeps that some list of events leads to them
-/// from a beginning: a new disk, or one that was opened with a library on it.
+/// The protocol core with a build and a disk in memory. Contracts see its contents. The type keeps that some list of events leads from a
+/// beginning to these contents. A beginning has a new disk, or one that was opened with a library on it.
 pub struct State<B: Build> {
     build: B,
     contents: Contents<B::Piece>,
 }
 
-// Written by hand, so that crates above can call it and need not prove again how each part is dropped.
+// Written by hand, so that crates that use this one can call this `drop` and need not prove again how each part is dropped.
 impl<B: Build> Drop for State<B> {
     fn drop(self) {
         let State { build, contents } = self;
@@ -84,14 +84,14 @@ impl<B: Build> State<B> {
         Ok(State::idle(alloc, build, core))
     }
 
-    /// The state before any event, on a disk with a library: of any size, in either area, with units in it. The live map is what
-    /// the disk's bytes recover to. The order has the commands of its records, numbered from 0 on.
+    /// The state before any event, on a disk that already has a library. The disk may have any size and use either area. The live map is
+    /// what the disk's bytes recover to. The order has the commands of the disk's records, numbered from 0 on.
     ///
     /// The caller must know that each unit that is found is right by the build's law. This holds if only this build wrote to the
     /// disk.
     ///
-    /// Refusals, each with the disk handed back as it was: 38 `NotALibrary` if there is no valid header, 37 `Damaged` if there is
-    /// one and the bytes recover to no library, 40 `OutOfMemory`. 35 never comes, since a disk in memory does not fail.
+    /// Refusals, each with the disk handed back as it was: 38 `NotALibrary` if there is no valid header, 37 `Damaged` if the header is
+    /// valid but the bytes recover to no library, and 40 `OutOfMemory`. 35 never comes, since a disk in memory does not fail.
     pub fn open(
         alloc: Global,
         build: B,
@@ -148,9 +148,9 @@ impl<B: Build> State<B> {
         }
     }
 
-    /// Takes the step of an event. Answers the event's reply, if it gives one: done, or a number that refuses. Fails with 29
-    /// `NotNow` if the event is not possible, and with 40 `OutOfMemory` if memory ran out. After either fault the state is as
-    /// before.
+    /// Takes the step of an event. Answers the event's reply, if it gives one: that a command is done, or the number that refuses it.
+    /// Fails with 29 `NotNow` if the event is not possible, and with 40 `OutOfMemory` if memory ran out. After either fault the state is
+    /// as before.
     pub fn step(
         &mut self,
         alloc: Global,
@@ -161,7 +161,7 @@ impl<B: Build> State<B> {
         ensures leaves { OnErr result (self.new ≡ self.old) }
         // A command that goes into the order has a spelling: the types of names and units keep this.
         ensures puts { OnOk result (PutsCommand self.old.core self.new.core) }
-        // A piece that a worker hands in keeps what its type keeps.
+        // A piece that a worker hands in has what its type keeps.
         ensures hands { OnOk result (HandsIn B.keeps event) }
     {
         take_step(&self.build, alloc, &mut self.contents, event)
@@ -201,8 +201,8 @@ impl<B: Build> State<B> {
     }
 }
 
-/// Takes these events one after the other, and skips each that is not possible when its turn comes. The only refusal is 40
-/// `OutOfMemory`; the state is dropped then.
+/// Takes these events in order, and skips each that is not possible when its turn comes. The only refusal is 40 `OutOfMemory`, after which
+/// the state is lost.
 pub fn run_events<B: Build>(
     alloc: Global,
     mut state: State<B>,

@@ -21,8 +21,8 @@ use std::marker::Model;
 /// The bytes before the first area.
 const HEADER: usize = 16;
 
-/// A journal on a disk in memory. Contracts see the cells, the area byte, the size of an area in bytes, and the number of bytes
-/// that the records take in the area that this byte names.
+/// A journal on a disk in memory. Contracts see the cells, the area byte, the size of an area in bytes, and the number of bytes that
+/// the records take in the area that the area byte names.
 #[derive(Drop)]
 pub struct Store {
     disk: MemoryDisk,
@@ -52,7 +52,7 @@ impl Store {
     {
         let mut disk = MemoryDisk::new(alloc, HEADER + 2 * area as usize)?;
         format(&mut disk, area).unwrap();
-        // From here on the whole disk is settled, the areas too.
+        // This settles the whole disk, including the areas.
         let _ = disk.sync();
         Ok(Store {
             disk,
@@ -62,7 +62,7 @@ impl Store {
         })
     }
 
-    /// The journal on a disk that holds records, which take `used` bytes of their area. From here on the whole disk is settled.
+    /// The journal on a disk that holds records, which take `used` bytes of their area. The sync here settles the whole disk.
     pub(crate) fn of_disk(mut disk: MemoryDisk, used: usize) -> Store
         requires { (area : ℕ) × (bodies : List (List ℕ)) × HoldsRecords (bytes_of disk.cells) area bodies × (used ≡ length (records bodies)) }
         ensures bytes { bytes_of result.cells ≡ bytes_of disk.cells }
@@ -103,7 +103,7 @@ impl Store {
         begin + self.used
     }
 
-    /// The commit that puts a record with this body after the last one. Fails if memory ran out.
+    /// The commit that appends a record with this body. Fails if memory ran out.
     pub(crate) fn append(&self, alloc: Global, body: &[u8]) -> Result<Commit, AllocError>
         requires { room_taken self.now body.now ≤ self.now.area }
         ensures commit { IfOk result (λ commit. commit ≡ append_commit (gate_of self.now) body.now) }
@@ -114,7 +114,7 @@ impl Store {
         Commit::append(alloc, self.gate(), body)
     }
 
-    /// The commit that writes records with these bodies to the area that is not in use. Fails if memory ran out.
+    /// The commit that writes one record for each of these bodies to the area that is not in use. Fails if memory ran out.
     pub(crate) fn rewrite(&self, alloc: Global, bodies: &[Body]) -> Result<Commit, AllocError>
         requires { room_of bodies.now ≤ self.now.area }
         ensures commit { IfOk result (λ commit. commit ≡ rewrite_commit self.now.area_byte self.now.area bodies.now) }
@@ -184,7 +184,7 @@ impl Store {
     }
 
     /// Opens a copy of the disk, and reads the map that its records represent, the area byte, and the number of bytes that the records
-    /// take. The only refusal is 40 `OutOfMemory`: a disk whose bytes recover to a map gives no other.
+    /// take. The only refusal is 40 `OutOfMemory`, since the disk's bytes recover to a map.
     pub(crate) fn reopen(&self, alloc: Global) -> Result<(UnitMap, u8, usize), LibraryFault>
         requires alone { LeavesAlone (bytes_of self.now.cells) (IsImage self.now.cells) }
         requires recovers { (units : Units) × Recovers (bytes_of self.now.cells) units }

@@ -37,7 +37,7 @@ impl<V: Drop> Table<V> {
         }
     }
 
-    /// The value under this number, if there is one. It takes no memory.
+    /// The value under this number, if there is one. Needs no memory.
     pub(crate) fn get(&self, number: u64) -> Option<&V>
         ensures { option_copied result ≡ map.get self.now number }
     {

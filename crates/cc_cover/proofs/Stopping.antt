@@ -10,7 +10,7 @@ use Rattle.cc_tasks.specs.Written.{stop_text}
 use Rattle.cc_tasks.specs.declared.answer.Answer.TheVariants.{Ran}
 use Rattle.cc_cover.specs.Traced.{HasStop, IsTraced}
 
--- the three, one after the other
+-- if a text, the line of a stop and another text were written one after another, then `HasStop` holds
 pub has_stop : {T E : Type 0} (answer : Result T E) (stop : Stop) (a b c d : Option (List ℕ)) (xs ys : List ℕ)
     → Appends a b xs → Appends b c (stop_text stop) → OnOk answer (Appends c d ys) → OnOk answer (HasStop stop a d)
 has_stop (Ok done) stop a b c d xs ys one two three =

@@ -7,13 +7,13 @@ use Rattle.cc_tasks.specs.Answer.{IsRan}
 use Rattle.cc_tasks.specs.Written.{stop_text}
 use Rattle.cc_tasks.specs.declared.answer.Answer.TheVariants.{Ran}
 
--- the line that says how a run stops, with what was seen before it and after it
+-- the line that says how a run stops was written, with some text before and after it
 pub record HasStop (stop : Stop) (old new : Option (List ℕ)) : Type 0 where
   pub before : List ℕ
   pub after : List ℕ
   pub written : Appends old new (before ++ stop_text stop ++ after)
 
--- the line that says how the run that the interpreter answers stops, with what was seen
+-- the line that says how the interpreter's run stops was written, with some text before and after it
 pub record IsTraced (steps : ℕ) (words text : List ℕ) (old new : Option (List ℕ)) : Type 0 where
   pub outcome : Outcome
   pub ran : IsRan steps words text (Ran outcome)

@@ -14,10 +14,10 @@ use cc_trace::{Counts, Program, Replay, Traced, Watch, traced_unit, words_of};
 use std::alloc::{AllocError, Global};
 use std::io::{self, Write};
 
-/// How often a line was reached; none if the line has nothing to execute.
+/// How often a line was reached; `None` if the line has nothing to execute.
 type Reached = Option<u64>;
 
-// Keeps the higher count of a line.
+// Raises a line's count to this one, if this one is higher.
 fn reach(counts: &mut Vec<Reached>, line: usize, count: u64) {
     if let Some(place) = counts.get_mut(line) {
         *place = Some(match *place {
@@ -27,7 +27,7 @@ fn reach(counts: &mut Vec<Reached>, line: usize, count: u64) {
     }
 }
 
-// How often each line was reached, counted from what was watched.
+// How often each line was reached, given what was watched.
 fn counts_of(
     alloc: Global,
     program: Program<'_>,
@@ -136,14 +136,14 @@ impl Ends {
 // Why runs are not counted.
 #[derive(Drop)]
 enum NotCounted {
-    /// The text has no run.
+    /// The text is refused, so it has no run.
     Refused(Fault),
     /// A run differs from the one that the interpreter answers.
     Other,
     OutOfMemory,
 }
 
-// Counts a run that ends with this outcome, according to the interpreter's answer.
+// Counts a run whose outcome is this one by the interpreter's answer.
 fn count_outcome(
     alloc: Global,
     unit: &Unit,
@@ -363,10 +363,11 @@ fn status<W: Write, E: Write + Drop>(
     }
 }
 
-/// Runs the program that the texts make on each of these inputs, with the interpreter, for at most this many steps each, and
-/// writes each line with how often it was reached in all runs: the highest count on it. A line that could be reached but never
-/// was has `never`; a line with nothing to execute has nothing. Then it writes how the runs ended. `seen` gets a newline for
-/// each run, so that it can count them. Refusals are those of `interpret`. The status is 0, or 1 for a fault.
+/// Runs the program that the texts are joined to on each of these inputs, with the interpreter, for at most this many steps
+/// each, and writes each line with how often it was reached in all runs: the highest count on it. A line that could be reached
+/// but never was is marked `never`; a line with nothing to execute is not marked. Then it writes how the runs ended. `seen`
+/// gets a newline for each run, so that it can count the runs. Refusals are those of `interpret`. The status is 0, or 1 for a
+/// fault.
 pub fn perform_cover<H: AllocGlobal, S: Write, W: Write, E: Write + Drop>(
     rt: &H,
     steps: u64,

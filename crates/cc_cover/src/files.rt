@@ -4,11 +4,10 @@ use super::cover::perform_cover;
 use super::inputs::{BadInput, inputs_of};
 use super::trace::perform_trace;
 use cc_answers::{Stands, Telling, write_fault_line};
-use cc_sources::{INPUT, NamedText, tell_unread, write_name};
+use cc_sources::{INPUT, NamedText, NoText, read_named, tell_unread, write_name};
 use cc_tasks::read_or_refuse;
 use std::alloc::{AllocError, Global};
-use std::fs::File;
-use std::io::{self, Input, Read, Write};
+use std::io::{self, Input, Write};
 use std::rt::Files;
 
 /// A file of inputs has at most this many bytes.
@@ -31,42 +30,6 @@ enum NoInputs {
     OutOfMemory,
 }
 
-// The bytes of a reader, up to one more than a file of inputs may have.
-fn read_lines<R: Read>(alloc: Global, reader: &mut R) -> Result<Vec<u8>, NoInputs> {
-    let mut text = Vec::new(alloc);
-    let mut piece = [0u8; 4096];
-    while text.len() < MOST_READ {
-        let room = piece.len().min(MOST_READ - text.len());
-        let count = match reader.read(&mut piece[..room]) {
-            Ok(count) => count,
-            Err(why) => return Err(NoInputs::Unread(why)),
-        };
-        if count == 0 {
-            break;
-        }
-        if text.extend_from_slice(&piece[..count]).is_err() {
-            return Err(NoInputs::OutOfMemory);
-        }
-    }
-    Ok(text)
-}
-
-// The bytes of the file with this name, or of standard input.
-fn read_named<R: Input, F: Files>(
-    rt: &R,
-    files: &F,
-    alloc: Global,
-    name: &str,
-) -> Result<Vec<u8>, NoInputs> {
-    if name == INPUT {
-        return read_lines(alloc, &mut rt.reader());
-    }
-    match File::open(files, name) {
-        Ok(mut file) => read_lines(alloc, &mut file),
-        Err(why) => Err(NoInputs::Unread(why)),
-    }
-}
-
 // Whether the program with these file names comes on standard input.
 fn is_on_input(names: &[String]) -> bool {
     names.is_empty() || names.iter().any(|name| name.as_str() == INPUT)
@@ -83,9 +46,10 @@ fn inputs_in<R: Input, F: Files>(
     if name == INPUT && is_on_input(names) {
         return Err(NoInputs::Taken);
     }
-    let lines = match read_named(rt, files, alloc, name) {
+    let lines = match read_named(rt, files, alloc, name, MOST_READ) {
         Ok(lines) => lines,
-        Err(why) => return Err(why),
+        Err(NoText::Unread(why)) => return Err(NoInputs::Unread(why)),
+        Err(NoText::OutOfMemory) => return Err(NoInputs::OutOfMemory),
     };
     if lines.len() > MOST_BYTES {
         return Err(NoInputs::TooLong);
@@ -132,7 +96,7 @@ fn number_of(why: &NoInputs) -> u32 {
     }
 }
 
-// Writes the fault line, and explains it.
+// Writes the fault's line, and explains the fault.
 fn refuse_inputs<W: Write, E: Write>(name: &str, why: &NoInputs, writer: &mut W, told: &mut E) {
     let written = write_fault_line(number_of(why), Stands::Nowhere, b"", writer);
     if written.is_ok() && writer.flush().is_ok() {
@@ -152,7 +116,7 @@ fn named(alloc: Global, names: &[String]) -> Result<Vec<String>, AllocError> {
     Ok(all)
 }
 
-// The program's texts; none if one could not be read. The fault is then written and explained.
+// The program's texts; `None` if one could not be read: the fault is then written and explained.
 fn texts_of<R: AllocGlobal + Input, F: Files, W: Write, E: Write>(
     rt: &R,
     files: &F,
@@ -237,8 +201,9 @@ pub fn cover_files<R: AllocGlobal + Input, F: Files, W: Write, E: Write + Drop>(
     cover_inputs(rt, files, names, steps, inputs, true, seen, writer, told)
 }
 
-/// Runs it as `cover_files` does, once for the words of each line of a file; `seen` gets a newline for each. The fault is 50 if
-/// a line of the file is not a list of words, 53 if the file can't be read, and 52 if it has more than 16,777,216 bytes.
+/// Runs the program as `cover_files` does, once for the words of each line of a file; `seen` gets a newline for each run. The
+/// fault is 50 if a line of the file is not a list of words, 53 if the file can't be read or is the standard input that has
+/// the program, and 52 if it has more than 16,777,216 bytes.
 pub fn cover_lines<R: AllocGlobal + Input, F: Files, S: Write, W: Write, E: Write + Drop>(
     rt: &R,
     files: &F,

@@ -1,9 +1,9 @@
 //! The commands `trace` and `cover`: the last things that a run does, and how often each line is reached.
 //!
-//! `trace` has the first, `cover` the second, over runs of `cc_trace`; `inputs` reads the inputs of several runs, `files` runs
-//! programs that are in files, `lines` says in which line of the whole program a byte lies, `shown` writes places and words.
-//! What they print besides the answer is an explanation: no promise rests on it, and it is left out if the run is not the
-//! interpreter's.
+//! The modules `trace` and `cover` have these commands, over runs of `cc_trace`; `inputs` reads the inputs of several runs,
+//! `files` runs programs that are in files, `lines` says in which line of the whole program a byte lies, `shown` writes places
+//! and words. What they print besides the answer is an explanation: no promise rests on it, and it is left out if the watched
+//! run differs from the interpreter's.
 #![tactic(auto)]
 
 mod cover;

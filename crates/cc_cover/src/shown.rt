@@ -3,7 +3,7 @@
 use cc_sources::{NamedText, place_in, write_name};
 use std::io::{self, Write};
 
-/// Writes the place of a byte in the whole that the texts make, for example `B.c:4:2`.
+/// Writes the place of a byte of the joined text, for example `B.c:4:2`.
 pub fn write_place<W: Write>(texts: &[NamedText], at: usize, writer: &mut W) -> io::Result<()> {
     let Some(found) = place_in(texts, at) else {
         return writer.write_all(b"?");

@@ -120,8 +120,8 @@ struct Run<'a> {
     last: usize,
 }
 
-// What is shown of a run, before and after the line that says how it stops; nothing if it is not the run that the interpreter
-// answers.
+// What is shown of a run, before and after the line that says how it stops; empty if the run is not the one that the
+// interpreter answers.
 #[derive(Drop)]
 struct Seen {
     before: Vec<u8>,
@@ -139,7 +139,7 @@ impl Seen {
     }
 }
 
-// What is seen of a run of a unit that has this outcome.
+// What is seen of a unit's run that has this outcome.
 fn seen_of_unit(
     alloc: Global,
     unit: &Unit,
@@ -167,7 +167,7 @@ fn seen_of_unit(
     Ok(seen)
 }
 
-// What is seen of a run of a text that has this outcome.
+// What is seen of a text's run that has this outcome.
 fn seen_of_text(
     alloc: Global,
     text: &[u8],
@@ -222,7 +222,7 @@ fn write_run<W: Write, E: Write + Drop>(
     written
 }
 
-/// Writes the fault line for the whole that the texts make, and explains it. The result is the status.
+/// Writes the line for a fault of the joined text, and explains the fault. The result is the status.
 pub(crate) fn refuse<W: Write, E: Write + Drop>(
     alloc: Global,
     fault: &Fault,
@@ -304,7 +304,7 @@ fn answered<W: Write, E: Write + Drop>(
     status
 }
 
-// Answers a task for the whole that the texts make, writes what the run did, and returns the status.
+// Answers a task for the joined text, writes what the run did, and returns the status.
 fn perform<W: Write, E: Write + Drop>(
     alloc: Global,
     task: &Task,
@@ -331,9 +331,9 @@ fn perform<W: Write, E: Write + Drop>(
     }
 }
 
-/// Runs the program that the texts make on input words, with the interpreter, for at most this many steps, and writes the last
-/// things that it did: calls, turns of loops, values that names get, words that are read and written; then how it ended, and
-/// the calls that were open. Refusals are those of `interpret`. The status is 0, or 1 for a fault.
+/// Runs the program that the texts are joined to on input words, with the interpreter, for at most this many steps, and writes
+/// the last things that it did: calls, turns of loops, values that names get, words that are read and written; then how it
+/// ended, and the calls that were open. Refusals are those of `interpret`. The status is 0, or 1 for a fault.
 pub fn perform_trace<H: AllocGlobal, W: Write, E: Write + Drop>(
     rt: &H,
     steps: u64,

@@ -248,7 +248,8 @@ module _ (call : Calls) (Is : List ℕ → Type 0) (each : (f : List ℕ) → Is
 -- ---- calls
 
 module _ (rank : List ℕ → ℕ) where
-  -- the function with this name, if there is one, calls only functions of lower rank than the name has
+  -- the function with this name, if there is one, calls only functions whose rank is lower than that of the
+  -- name
   abbrev Lower : List ℕ → Option Function → Type 0
   Lower x None = Unit {0}
   Lower x (Some f) = InStatements (λ g. rank g < rank x) f.body

@@ -47,7 +47,7 @@ abbrev pub InBeginning : (List ℕ → Type 0) → Beginning → Type 0
 InBeginning Is (Declares t ds) = InDeclarators Is ds
 InBeginning Is (Performs a) = InOptionalAction Is a
 
--- the same for each function that a statement, or a list of statements, calls
+-- `Is` holds for each function that a statement, or a list of statements, calls
 abbrev mutual
   pub InStatement : (List ℕ → Type 0) → Stmt → Type 0
   InStatement Is (Block all) = InStatements Is all
@@ -71,7 +71,7 @@ abbrev pub CallsLower : (rank : List ℕ → ℕ) → Function → Type 0
 CallsLower rank f = InStatements (λ g. rank g < rank f.name) f.body
 
 -- The calls of a unit have no cycle: its functions have ranks, by name, and each function calls only functions of lower rank.
--- The rank of main is below 1,024. Without a cycle such ranks always exist, since a unit has at most 64 functions.
+-- The rank of main is below 1,024. If there is no cycle, such ranks always exist, since a unit has at most 64 functions.
 pub record HasNoCycle (unit : List External) : Type 0 where
   pub rank : List ℕ → ℕ
   pub falls : AllByRecursion (CallsLower rank) (functions unit)

@@ -6,6 +6,6 @@ use Rattle.cc_c_semantics.specs.Outcome.{Wrong}
 use Rattle.cc_c_semantics.specs.declared.cause.Cause.TheVariants.{Depth}
 use Rattle.cc_depth.specs.Cycles.{HasNoCycle}
 
--- such a program never goes wrong because of too many open calls
+-- a program whose calls have no cycle never goes wrong because of too many open calls
 abbrev pub AcyclicProgramsAreNeverDeep : Type 0
 AcyclicProgramsAreNeverDeep = (s : Source) → HasNoCycle s.externals → (input : List ℕ) (n : ℕ) → (source_behavior s input n).stop ≢ Wrong Depth

@@ -18,7 +18,7 @@ use_of Input all = all.input
 use_of Output all = all.output
 use_of Error all = all.error
 
--- what the descriptors are used for after a stand-in was opened: the lowest free one of the three has it, if one was free
+-- what the descriptors are used for after a stand-in was opened: the lowest of the three that was free has it, if any was
 abbrev pub opened : Access → Uses → Uses
 opened access all =
     if is_used all.input then

@@ -26,7 +26,7 @@ pub enum Access {
 /// What a descriptor is used for.
 #[derive(Clone, Copy, Debug, Drop, PartialEq, Eq)]
 pub enum Use {
-    /// Nothing: the next file to be opened gets it, unless a lower one is free.
+    /// Nothing: the next file to be opened gets it, unless a lower descriptor is free.
     Free,
     /// A file that the process was started with.
     Given,

@@ -6,7 +6,7 @@ ghost use Rattle.cc_descriptors.specs.Uses.{is_used};
 use crate::descriptors::{Access, Descriptors, Standard, Use, Uses};
 use std::io;
 
-/// A system whose descriptors 0 to 2 are known, and which refuses no stand-in. For tests.
+/// A system whose descriptors 0 to 2 are known, and that never refuses a stand-in. For tests.
 #[derive(Clone, Copy, Debug, Drop)]
 pub struct KnownDescriptors {
     pub uses: Uses,

@@ -16,7 +16,8 @@ pub struct System {
     pub rt: HostRuntime,
 }
 
-// Whether a descriptor is in use. Copying one that is in use may fail for lack of resources, but not with that number.
+// Whether a descriptor is in use. Copying one that is in use may fail for lack of resources, but not with
+// `NOT_IN_USE`.
 fn is_used<F: AsFd>(file: &F) -> bool {
     match file.as_fd().try_clone_to_owned() {
         Ok(_) => true,
@@ -37,7 +38,8 @@ impl Descriptors for System {
         }
     }
 
-    // A directory can be neither read as a file nor written, so it serves too if there is no `/dev/null`.
+    // A directory can be neither read as a file nor written, so it also serves as a stand-in if there is no
+    // `/dev/null`.
     fn open(&mut self, access: Access) -> io::Result<File> {
         let mut how = OpenOptions::new();
         match access {

@@ -1,5 +1,5 @@
-// Takes the free ones of the descriptors 0 to 2, lowest first. A file gets the lowest free descriptor, so each stand-in gets the
-// one that it is meant for.
+// Takes those of the descriptors 0 to 2 that are free, lowest first. A file gets the lowest free descriptor, so each stand-in
+// gets the one that it is meant for.
 
 ghost use Rattle.std.specs.Prelude.{◌≡◌, Some, IfOk, IfSome, OnOk, is_some, not, if◌then◌else◌};
 ghost use Rattle.cc_descriptors.specs.Uses.{AreHeld, is_used, opened, taken, use_of};
@@ -34,8 +34,8 @@ fn take<D: Descriptors>(
     }
 }
 
-/// Takes the free ones of the three descriptors; call it before anything else is opened. A read of the stand-in for standard
-/// input fails, and so does a write to the other two.
+/// Takes those of the three descriptors that are free; call it before anything else is opened. A read of the stand-in for
+/// standard input fails, and so does a write to the other two.
 ///
 /// An `Err` means that the system refused a stand-in. Then a file that is opened may get one of the three, so the program must
 /// not open any.

@@ -1,5 +1,5 @@
-// What a tree becomes so that it can be run once more: instructions over a stack of words. Those that can go wrong have their
-// places.
+// The instructions into which a tree is translated for a second run; they work on a stack of words. Those that can go wrong
+// contain their places in the text.
 
 use cc_resolve::{Extent, UnaryOperation};
 use cc_syntax::{BinaryOperator, Identifier};
@@ -33,15 +33,15 @@ pub enum Instruction<'a> {
     Global(usize),
     /// Replaces an index with the array's element.
     Element(Element<'a>),
-    /// Puts the array's element below the newest word. The element's index, which is the word below that, stays there.
+    /// Inserts the array's element between the newest word and the word below it, which is the element's index.
     ElementBelow(Element<'a>),
     /// Swaps the two newest words.
     Swap,
-    /// Takes a word and stores it in a variable of the function.
+    /// Pops a word and stores it in a variable of the function.
     SetLocal(usize),
-    /// Takes a word and stores it in a word of the objects at file scope.
+    /// Pops a word and stores it in a word of the objects at file scope.
     SetGlobal(usize),
-    /// Takes a word and the index below it, and stores the word in the array's element.
+    /// Pops a word and the index below it, and stores the word in the array's element.
     SetElement(Element<'a>),
     Unary(UnaryOperation),
     /// Replaces two words, the left one below the right one, with the operator's value.
@@ -55,7 +55,7 @@ pub enum Instruction<'a> {
     /// If the word is not 0, replaces it with 1 and jumps; otherwise removes it.
     OrElse(usize),
     Jump(usize),
-    /// Takes a word, and jumps if it is 0.
+    /// Pops a word, and jumps if it is 0.
     JumpIfZero(usize),
     /// Spends a step.
     Step,
@@ -65,12 +65,12 @@ pub enum Instruction<'a> {
     Read,
     /// Writes a word to the output, and replaces it with 0.
     Write,
-    /// Returns from the function with a word.
+    /// Pops a word, and returns it from the function.
     Return,
 }
 
-/// A function: its name and, once it is defined, the number of its first instruction, how many parameters it has, and how many
-/// other variables.
+/// A function: its name and, once it is defined, the number of its first instruction, and how many parameters and other
+/// variables it has.
 #[derive(Clone, Copy)]
 pub struct Function<'a> {
     pub name: &'a Identifier,
@@ -79,8 +79,8 @@ pub struct Function<'a> {
     pub variables: usize,
 }
 
-/// What a unit becomes: the instructions of its functions one after another, and its functions in the order of their first
-/// declarations.
+/// The translation of a unit: the instructions of its functions, one function after another, and its functions in the order of
+/// their first declarations.
 #[derive(Drop)]
 pub struct Bytecode<'a> {
     pub instructions: Vec<Instruction<'a>>,

@@ -1,4 +1,4 @@
-// Why an expression is not a constant expression: it has a name or a call, or its value is not defined.
+// Why an expression is not a constant expression: it contains a name or a call, or its value is not defined.
 //
 // The reason is found in its tokens: the first name decides.
 
@@ -7,9 +7,9 @@ use cc_tokens::{NextToken, Token, TokenKind, next_token};
 /// Why an expression is not a constant expression.
 #[derive(Clone, Copy)]
 pub enum Cause {
-    /// The expression has a name, at these bytes of the text.
+    /// The expression contains a name, at these bytes of the text.
     Name(usize, usize),
-    /// The expression has a call of a name, at these bytes.
+    /// The expression calls a name, at these bytes of the text.
     Call(usize, usize),
     /// The expression divides by 0, or shifts by too much.
     Undefined,
@@ -23,7 +23,7 @@ fn token_at(text: &[u8], at: usize) -> Option<Token> {
     }
 }
 
-// Whether a token ends a constant expression in which no name has come so far.
+// Whether a token ends a constant expression, if no name came before it.
 fn is_end(text: &[u8], token: Token) -> bool {
     match text.get(token.from) {
         Some(byte) => matches!(*byte, b',' | b';' | b']' | b'}'),
@@ -31,7 +31,7 @@ fn is_end(text: &[u8], token: Token) -> bool {
     }
 }
 
-// The cause if this name is found: the name, or a call of it if a parenthesis follows.
+// The cause if this is the first name: the name, or a call of it if a parenthesis follows.
 fn of_name(text: &[u8], name: Token) -> Cause {
     match token_at(text, name.to) {
         Some(token) if text.get(token.from) == Some(&b'(') => Cause::Call(name.from, name.to),

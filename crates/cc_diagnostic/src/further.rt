@@ -28,7 +28,7 @@ struct Found {
 
 /// A search for errors: the text with its tree, its declarations at file scope, and its copy; the names that the text declares
 /// twice; the number and the offset of the fault that was mended last, and the offset of the last one that was reported;
-/// whether 19 or 20 was found, which come after all others; and the reports.
+/// whether NoMain (19) or Undefined (20) was found, which come after all other faults; and the reports.
 #[derive(Drop)]
 struct Search<'a> {
     unit: &'a Unit,
@@ -42,7 +42,7 @@ struct Search<'a> {
     told: Vec<Diagnostic>,
 }
 
-// Whether a name is used here, and not declared.
+// Whether a name is used here rather than declared.
 fn is_use(done: Use) -> bool {
     match done {
         Use::Read | Use::Indexed | Use::Written | Use::Called(_) => true,
@@ -63,7 +63,7 @@ fn fault_of(alloc: Global, unit: Unit) -> Result<Option<TypeFault>, AllocError> 
     }
 }
 
-// The fault of a text that has a tree, with its offset less `shift` bytes.
+// The fault of a text that has a tree, with its offset reduced by `shift`.
 fn found_in(alloc: Global, text: &[u8], shift: usize) -> Result<Option<Found>, AllocError> {
     match parse(alloc, text) {
         Ok(unit) => match fault_of(alloc, unit)? {
@@ -120,8 +120,8 @@ impl<'a> Search<'a> {
         }
     }
 
-    // The offset up to which a name that breaks a rule at the offset `at` is renamed: as far as it denotes nothing, or denotes
-    // the later of two declarations.
+    // The offset up to which a name that breaks a rule at the offset `at` is renamed: the end of the part in which it denotes
+    // nothing, or in which it denotes the later of two declarations.
     fn until(&self, fault: &TypeFault, at: usize, word: &[u8]) -> usize {
         let declared = self.declarations.as_slice();
         let end = self.unit.text().len();
@@ -278,7 +278,7 @@ fn of_unit(alloc: Global, unit: &Unit, first: &TypeFault) -> Result<Vec<Diagnost
     }
 }
 
-/// Makes diagnostics of the errors of scope and type after the first one, which is the fault that `check` returned for the
+/// Makes diagnostics for the errors of scope and type after the first one, which is the fault that `check` returned for the
 /// text's tree. There are at most 19, in the order of their places, with 19 (NoMain) and 20 (Undefined) last, and a note if
 /// there are more errors. A limit that is exceeded (21) is reported only if it comes first. A text without a tree has no such
 /// errors.

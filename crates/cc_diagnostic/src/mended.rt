@@ -93,13 +93,13 @@ impl Mended {
         }
     }
 
-    // Whether a token is this word with another first letter.
+    // Whether a token is this word with `letter` in place of its first letter.
     fn is(&self, token: Token, letter: u8, word: &[u8]) -> bool {
         let bytes = self.text.get(token.from..token.to).unwrap_or(b"");
         bytes.first() == Some(&letter) && tail(bytes) == tail(word)
     }
 
-    // Whether this word occurs in the text with another first letter.
+    // Whether this word, with `letter` in place of its first letter, occurs in the text.
     fn has(&self, tokens: &[Token], letter: u8, word: &[u8]) -> bool {
         for token in tokens {
             if self.is(*token, letter, word) {
@@ -130,7 +130,7 @@ impl Mended {
         }
     }
 
-    // Declares the word with this first letter, as its use needs it.
+    // Declares the word with this first letter in the way that its use requires.
     fn declare(&mut self, letter: u8, word: &[u8], done: Use) -> Result<(), AllocError> {
         self.declared.extend_from_slice(b"int ")?;
         self.declared.push(letter)?;
@@ -149,7 +149,7 @@ impl Mended {
     }
 
     /// Mends a name that breaks a rule at the offset `at`: from there up to the offset `to` it is renamed, and the new name is
-    /// declared as its use needs it. If the use is itself a declaration, nothing more is declared.
+    /// declared in the way that its use requires. If the use is itself a declaration, nothing more is declared.
     pub fn mend_name(
         &mut self,
         tokens: &[Token],
@@ -166,7 +166,7 @@ impl Mended {
         }
     }
 
-    // The offset at which the constant expression that begins at `at` ends.
+    // The offset of the end of the constant expression that begins at `at`.
     fn end_of_constant(&self, tokens: &[Token], at: usize) -> usize {
         let mut depth: usize = 0;
         for token in tokens {
@@ -183,7 +183,7 @@ impl Mended {
         self.text.len()
     }
 
-    /// Mends the expression at an offset, which should be constant and is not.
+    /// Replaces the expression at an offset, which should be constant, with `1`.
     pub fn mend_constant(&mut self, tokens: &[Token], at: usize) {
         let end = self.end_of_constant(tokens, at);
         self.blank(at, end);

@@ -22,7 +22,8 @@ fn can_go_wrong(token: Token) -> bool {
     }
 }
 
-/// The offsets of the operators that can go wrong, in the order of the text; `None` if the text has no tokens.
+/// The offsets of the operators that can go wrong, in the order of the text; `None` if the text cannot be
+/// split into tokens.
 pub fn operators(alloc: Global, text: &[u8]) -> Result<Option<Vec<usize>>, AllocError> {
     match tokens(alloc, text) {
         Ok(tokens) => {

@@ -65,19 +65,19 @@ impl<'a> View<'a> {
         }
     }
 
-    // A message of the word, what to say about it, and a place.
+    // A message that consists of the word, what to say about it, and a place.
     fn with_place(&self, alloc: Global, said: &'a str, at: usize) -> Result<String, AllocError> {
         let place = MessagePart::Place(place_in(self.text, at));
         message(alloc, &[self.word(), MessagePart::Words(said), place])
     }
 
-    // A message of the word and what to say about it.
+    // A message that consists of the word and what to say about it.
     fn with(&self, alloc: Global, said: &'a str) -> Result<String, AllocError> {
         message(alloc, &[self.word(), MessagePart::Words(said)])
     }
 }
 
-// What a name denotes.
+// What kind of thing a name denotes, in words.
 fn kind(standing: Standing<'_>) -> &'static str {
     match standing.entity {
         Entity::Variable(_) => " is a variable",
@@ -86,7 +86,7 @@ fn kind(standing: Standing<'_>) -> &'static str {
     }
 }
 
-// What cannot be done with a name.
+// What cannot be done with a name, in words.
 fn not_done(done: Use) -> &'static str {
     match done {
         Use::Read => " and cannot be used as a value",
@@ -140,7 +140,7 @@ fn misused(alloc: Global, view: &View<'_>) -> Result<String, AllocError> {
     }
 }
 
-// The message about a name that is declared nowhere: why it is not there, or what might be meant.
+// The message about a name that is not declared: why it is not, or which name might be meant.
 fn not_declared(alloc: Global, view: &View<'_>) -> Result<String, AllocError> {
     let what = MessagePart::Words(" is not declared");
     if let Some(said) = said_of_foreign(view.word) {
@@ -500,7 +500,7 @@ fn of_note<'a>(
     })
 }
 
-/// Makes a diagnostic of a unit's fault at an offset, given what was noted there.
+/// Makes a diagnostic for a unit's fault at an offset, given what was noted there.
 ///
 /// Fails with `AllocError` if memory runs out.
 pub fn told_of<'a>(
@@ -525,7 +525,7 @@ fn of_unit(alloc: Global, unit: &Unit, fault: &TypeFault, at: usize) -> Result<T
     of_note(alloc, unit, note, fault, at)
 }
 
-/// Makes a diagnostic of the fault that `check` returned for a text's tree: the name, what it denotes and the place of its
+/// Makes a diagnostic for the fault that `check` returned for a text's tree: the name, what it denotes and the place of its
 /// first declaration, the counts, or the limit that was exceeded. `None` for a text without a tree.
 ///
 /// Fails with `AllocError` if memory runs out.

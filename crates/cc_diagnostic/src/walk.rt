@@ -2,8 +2,8 @@
 //
 // The walk notes what is at one offset of the text, and writes the instructions of each function. The tree does not keep the
 // places of the operators that can go wrong. But these operators are in the tree in the order of their tokens, so the walk
-// takes the places of those tokens one after another. A tree that breaks rules is visited like any other: what has no meaning
-// becomes no instruction, or a constant.
+// takes the places of those tokens one after another. A tree that breaks rules is visited like any other: a part without
+// meaning becomes a constant, or no instruction at all.
 //
 // If memory is refused, the walk notes this and continues; `externals` reports it at the end. So no step of the walk returns an
 // error.
@@ -52,7 +52,7 @@ pub struct Note<'a> {
 
 /// A walk: the names in scope, how many variables the function has so far, and the function; the places of operators that can
 /// go wrong, and how many of them were taken; the offset for which a note is wanted, and the note; and what has been written.
-/// Of the jumps out of loops that have no target yet, it keeps the numbers of their instructions.
+/// It also keeps the instruction numbers of the jumps out of loops that have no target yet.
 #[derive(Drop)]
 pub struct Walk<'a> {
     names: Names<'a>,
@@ -67,7 +67,7 @@ pub struct Walk<'a> {
     pub code: Vec<Instruction<'a>>,
     pub functions: Vec<Function<'a>>,
     pub warnings: Vec<Warning<'a>>,
-    // The offset of the first name that was used since a statement began.
+    // The offset of the first name that was used in the current statement.
     first: Option<usize>,
     // How many words the objects so far have.
     words: usize,
@@ -233,8 +233,8 @@ fn written<'a>(
     }
 }
 
-/// Returns the instructions that a unit's tree becomes so that it can be run once more. `None` for a text without tokens, which
-/// no unit has.
+/// Returns the instructions into which a unit's tree is translated for a second run. `None` for a text that cannot be split
+/// into tokens, which no unit has.
 ///
 /// Fails with `AllocError` if memory runs out.
 pub fn code_of(alloc: Global, unit: &Unit) -> Result<Option<Bytecode<'_>>, AllocError> {

@@ -1,6 +1,7 @@
-// Warnings about a program: it may run, but hardly as it was meant to.
+// Warnings about a program: it may run, but probably not as it was meant to.
 //
-// The walk finds what is in expressions and statements. Here are the warnings that tokens give rise to, and the messages.
+// The walk finds what is in expressions and statements. This module has the warnings that tokens give rise to, and all
+// messages.
 
 use super::code::Element;
 use super::walk::Walk;
@@ -19,7 +20,7 @@ pub enum Warning<'a> {
     Index(Element<'a>, u32),
     /// A statement without effect, at the offset of its first name.
     NoEffect(usize),
-    /// A function with a result whose end can be reached.
+    /// A function that has a result, but whose end can be reached.
     NoReturn(&'a Identifier),
 }
 

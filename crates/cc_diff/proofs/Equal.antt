@@ -60,7 +60,7 @@ same_image a b e =
 its_image : (a : Image) → is_same_image a a ≡ true
 its_image a = ap (λ (x : Bool). x && bytes_eq a.globals a.globals) (itself a.code) ∙ itself a.globals
 
--- units with one name and no line are the same
+-- if a name has no line, its units on the two sides are the same
 same_units : (name : List ℕ) (a b : Option StoredUnit) → lines_of name a b ≡ [] → a ≡ b
 same_units name None None e = refl
 same_units name None (Some y) e = cc
@@ -72,7 +72,7 @@ same_units name (Some x) (Some y) e =
     let certificate = same_certificate x.certificate y.certificate (is_same _ name _ (second_none _ _ rest)) in
     λ i. Some (record { source = source i; image = image i; certificate = certificate i })
 
--- a unit has no line against itself
+-- a part that is the same has no line
 no_line : (same : Bool) (name : List ℕ) (part : Difference) → same ≡ true → unless same name part ≡ []
 no_line same name part e = ap (λ (b : Bool). unless b name part) e
 

@@ -3,13 +3,14 @@ use Rattle.std.proofs.Common.{◌≡◌, ◌<◌, ◌≤◌, ℕ, ◌+◌, List,
 use Rattle.std.proofs.lemmas.List.{flat_map_more, take_all, take_more}
 use Rattle.std.specs.List.{flat_map}
 
--- three lists of lines are added
+-- three lists of lines that are added one after another are added as one list
 pub three : {T E A : Type 0} (answer : Result T E) (a b c d xs ys zs : List A) → b ≡ a ++ xs → c ≡ b ++ ys → OnOk answer (d ≡ c ++ zs) → OnOk answer (d ≡ a ++ (xs ++ (ys ++ zs)))
 three (Err e) a b c d xs ys zs one two last = tt
 three (Ok done) a b c d xs ys zs one two last =
     last ∙ (ap (λ l. l ++ zs) (two ∙ ap (λ l. l ++ ys) one) ∙ (append_assoc (a ++ xs) ys zs ∙ append_assoc a xs (ys ++ zs)))
 
--- the lines of one more name are added
+-- if the lines are those of the first `i` names, and those of the next name are added, they are those of the
+-- first `i + 1`
 pub one_more : {A B : Type 0} (of : A → List B) (names : List A) (i : ℕ) (name : A) (old new : List B) → i < length names → name ≡ get_or names i name
     → old ≡ flat_map of (take i names) → new ≡ old ++ of name → new ≡ flat_map of (take (i + 1) names)
 one_more of names i name old new within is before added =

@@ -56,7 +56,8 @@ by_name units name unit q false e =
     ap (λ (m : Units). map.contains_key m q) made
     ∙ (ap is_some (map.get-insert nat_list_cmp_total units name unit q) ∙ added (eq_by_cmp R q name) unit (map.get units q))
 
--- the names of a map after a unit was added to it, which happens unless the map has a unit with that name
+-- a map has its old names and this name after a unit was added, which happens unless the map has a unit with
+-- that name
 pub with_name : (units : Units) (name : List ℕ) (unit : StoredUnit) (q : List ℕ) → map.contains_key (after units (Add name unit)) q ≡ (map.contains_key units q || eq_by_cmp R q name)
 with_name units name unit q = by_name units name unit q (map.contains_key units name) refl
 
@@ -70,7 +71,8 @@ is_key units names i name keys within is =
     let all : list_any p names ≡ true = ap (list_any p) (sym parts) ∙ (list_any-append p (take (i + 1) names) (drop (i + 1) names) ∙ ap (λ b. b || list_any p (drop (i + 1) names)) here) in
     map.contains_key-keys units name ∙ (ap (list_any p) (sym keys) ∙ all)
 
--- one more name of the right map
+-- if the map has the names of the left map and those of the right one so far, this is still true with one
+-- more name of the right one
 pub one_more : (left has tie so_far more : Bool) → has ≡ (left || so_far) → more ≡ (so_far || tie) → (has || tie) ≡ (left || more)
 one_more true has tie so_far more is next = ap (λ b. b || tie) is
 one_more false has tie so_far more is next = ap (λ b. b || tie) is ∙ sym next
@@ -79,7 +81,8 @@ pub added_on : {T E : Type 0} (answer : Result T E) (old new : Units) (name : Li
 added_on (Err e) old new name unit is = tt
 added_on (Ok done) old new name unit is = record { has = λ q. ap (λ (m : Units). map.contains_key m q) is ∙ with_name old name unit q }
 
--- the map's names are those of the left map, and those of the right one so far
+-- with the next name of the right map, the map's names are still those of the left map and those of the right
+-- one so far
 pub named : (left both new : Units) (names : List (List ℕ)) (i : ℕ) (name : List ℕ) → i < length names → name ≡ get_or names i name → HasNameToo both name new
     → ((q : List ℕ) → map.contains_key both q ≡ (map.contains_key left q || list_any (eq_by_cmp R q) (take i names)))
     → (q : List ℕ) → map.contains_key new q ≡ (map.contains_key left q || list_any (eq_by_cmp R q) (take (i + 1) names))

@@ -21,7 +21,7 @@ use Rattle.cc_diff.specs.declared.disks.DiffFault.TheVariants as fault
 abbrev pub is_same_image : Image → Image → Bool
 is_same_image left right = bytes_eq left.code right.code && bytes_eq left.globals right.globals
 
--- there are two certificates with the same bytes, or none
+-- there are two certificates with the same bytes, or no certificate
 abbrev pub is_same_certificate : Option (List ℕ) → Option (List ℕ) → Bool
 is_same_certificate None None = true
 is_same_certificate None (Some right) = false
@@ -36,7 +36,7 @@ abbrev pub unless : (same : Bool) → (name : List ℕ) → Difference → List 
 unless true name part = []
 unless false name part = line_of name part ∷ []
 
--- the lines of two units with one name: one line for each of source, image and certificate that differs
+-- the lines for two units with the same name: one line for each of source, image and certificate that differs
 abbrev pub lines_of_both : (name : List ℕ) → (left right : StoredUnit) → List DiffLine
 lines_of_both name left right =
     unless (bytes_eq left.source right.source) name Source
@@ -58,14 +58,14 @@ HasNamesOf left right both = (name : List ℕ) → contains_key both name ≡ (c
 
 -- the lines are those of each name of the two maps, in the order of the names' bytes
 pub record IsDiff (left right : Units) (lines : List DiffLine) : Type 0 where
-  -- a map with the names of both: its keys are in that order
+  -- a map with the names of both: its keys are in the order of the names' bytes
   pub both : Units
   pub names : HasNamesOf left right both
   pub lines_are : lines ≡ flat_map (λ name. lines_of name (get left name) (get right name)) (keys both)
 
 -- ---- disks
 
--- the disks recover to two maps, the lines are the differences between these, and there are none exactly if the maps are the same
+-- the disks recover to two maps, the lines are their differences, and there are no lines exactly if the maps are the same
 pub record IsDiffOn (seen_left seen_right : List ℕ) (lines : List DiffLine) : Type 0 where
   pub left : Units
   pub right : Units

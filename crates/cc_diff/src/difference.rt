@@ -1,4 +1,4 @@
-// How the units with one name differ.
+// How two units with the same name differ.
 
 ghost use Rattle.std.specs.Prelude.{◌≡◌, ◌++◌, false, OnOk, option_map};
 ghost use Rattle.std.specs.Arc.{arc_value};
@@ -69,7 +69,7 @@ fn push(lines: &mut Vec<DiffLine>, name: &Name, difference: Difference) -> Resul
     Ok(())
 }
 
-// Adds the line of a part, if it differs.
+// Adds the line for a part, if the part differs.
 fn push_unless(
     lines: &mut Vec<DiffLine>,
     is_same: bool,
@@ -84,7 +84,7 @@ fn push_unless(
     push(lines, name, part)
 }
 
-// Adds the lines of two units with one name.
+// Adds the lines for two units with the same name.
 #[tactic(auto, using(crate::proofs::Lines::three))]
 fn push_both(
     lines: &mut Vec<DiffLine>,

@@ -40,8 +40,8 @@ impl DiffFault {
     }
 }
 
-/// The differences between the libraries on two disks, as `diff_maps` gives them. The disks are handed back, and nothing is written to
-/// them.
+/// The differences between the libraries on two disks, as `diff_maps` returns them. The disks are handed back, and nothing is written
+/// to them.
 ///
 /// Refusals: those of `Library::open` on the left disk, 35, 38, 37 and 40, then on the right one; then 40.
 pub fn diff_disks<D: Disk + Drop>(
@@ -49,7 +49,7 @@ pub fn diff_disks<D: Disk + Drop>(
     left: D,
     right: D,
 ) -> (Result<Vec<DiffLine>, DiffFault>, (D, D))
-    // On an honest kind of disk, the lines are for the maps to which the disks recover.
+    // On an honest kind of disk, the lines are the differences between the maps to which the disks recover.
     ensures lines { IfOk result.0 (λ lines. IsTrue D.honest → IsDiffOn (D.seen left) (D.seen right) lines.items) }
     ensures refused { IfErr result.0 (λ fault. DiffFaults D.honest (D.seen left) (D.seen right)
         (D.failures left) (D.failures result.1.0) (D.failures right) (D.failures result.1.1) fault) }

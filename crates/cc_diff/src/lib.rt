@@ -1,8 +1,8 @@
 //! The differences between two libraries, name by name.
 //!
-//! `difference` compares the units with one name, `maps` two maps, `disks` the libraries on two disks; `written` writes the
-//! lines. The crate exports `diff_disks`, `diff_maps`, `write_diff`, their types, and the definitions that the contracts cite
-//! (`specs/`).
+//! `difference` compares two units with the same name, `maps` two maps, `disks` the libraries on two disks; `written` writes
+//! the lines. The crate exports `diff_disks`, `diff_maps`, `write_diff`, their types, and the definitions that the contracts
+//! cite (`specs/`).
 #![tactic(auto)]
 
 mod difference;

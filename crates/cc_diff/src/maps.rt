@@ -1,29 +1,13 @@
 // The differences between two maps.
 
 ghost use Rattle.std.specs.Prelude.{◌≡◌, ◌↔◌, [], true, IfOk, OnOk};
-ghost use Rattle.std.specs.Arc.{arc_value};
 ghost use Rattle.std.specs.FinMap as map;
-ghost use Rattle.cc_library.specs.Apply.{after};
-ghost use Rattle.cc_library.specs.declared.command.Change.TheVariants as command;
 ghost use Rattle.cc_diff.specs.internal.Names.{HasNameToo};
 ghost use Rattle.cc_diff.specs.Diff.{HasNamesOf, IsDiff};
 
 use crate::difference::{DiffLine, push_lines};
-use cc_library::{LibraryCommand, Name, SharedUnit, UnitMap};
-use cc_unit::StoredUnit;
+use cc_library::{Name, UnitMap};
 use std::alloc::{AllocError, Global};
-use std::sync::Arc;
-
-// Adds this unit with this name to a map, if the map has no unit with the name.
-fn add(both: &mut UnitMap, name: &Name, unit: &Arc<StoredUnit>) -> Result<(), AllocError>
-    ensures { OnOk result (both.new ≡ after both.old (command.Add name.now (arc_value unit.now))) }
-{
-    let unit = SharedUnit::new(Arc::try_clone(unit)?);
-    let command = LibraryCommand::Add(name.clone()?, unit);
-    let answer = both.apply(&command);
-    drop(command);
-    answer
-}
 
 // Adds the unit that the other map has with this name, if the map has no unit with the name.
 #[tactic(auto, using(crate::proofs::Names::added_on))]
@@ -32,12 +16,12 @@ fn add_name(both: &mut UnitMap, other: &UnitMap, name: &Name) -> Result<(), Allo
     ensures { OnOk result (HasNameToo both.old name.now both.new) }
 {
     match other.get(name) {
-        Some(unit) => add(both, name, unit),
+        Some(unit) => both.add(name, unit),
         None => Ok(()),
     }
 }
 
-// A map with the names of both.
+// A map with the names of both maps.
 fn with_names_of(alloc: Global, left: &UnitMap, right: &UnitMap) -> Result<UnitMap, AllocError>
     ensures { IfOk result (HasNamesOf left.now right.now) }
 {
@@ -49,14 +33,15 @@ fn with_names_of(alloc: Global, left: &UnitMap, right: &UnitMap) -> Result<UnitM
     Ok(both)
 }
 
-/// The differences between two maps: by name, in the order of the names' bytes. Err: memory ran out.
+/// The differences between two maps: by name, in the order of the names' bytes. Fails with `AllocError` if
+/// memory runs out.
 pub fn diff_maps(
     alloc: Global,
     left: &UnitMap,
     right: &UnitMap,
 ) -> Result<Vec<DiffLine>, AllocError>
     ensures lines { IfOk result (λ lines. IsDiff left.now right.now lines.items) }
-    // There are none exactly if the two maps are the same.
+    // There are no differences exactly if the two maps are the same.
     ensures equal { IfOk result (λ lines. (lines.items ≡ []) ↔ (left.now ≡ right.now)) }
 {
     let both = with_names_of(alloc, left, right)?;

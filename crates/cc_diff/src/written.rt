@@ -30,7 +30,7 @@ fn write_line<W: Write>(line: &DiffLine, writer: &mut W) -> io::Result<()>
     writer.write_all(b"\n")
 }
 
-/// Writes each line: what differs, and the name. Err: the writer failed.
+/// Writes each line: what differs, and the name. Fails if the writer failed.
 #[tactic(auto, using(cc_answers::proofs::Writing::one_more))]
 pub fn write_diff<W: Write>(lines: &[DiffLine], writer: &mut W) -> io::Result<()>
     ensures { OnOk result (Appends (W.contents writer.old) (W.contents writer.new) (diff_text lines.now)) }

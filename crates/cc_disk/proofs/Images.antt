@@ -1,5 +1,5 @@
--- What the calls of the disk in memory do to what a read gives and to what a crash may leave. A disk is split into three parts at
--- the range of a write, and so is each image.
+-- What the calls of the disk in memory do to what a read gives and to what a crash may leave. A disk is split at the range of a
+-- write into three parts, and so is each image.
 use Rattle.std.proofs.Common.{◌≡◌, ℕ, ◌+◌, ◌≤◌, List, [], ◌∷◌, ◌++◌, map, length, take, drop, refl, sym, ◌∙◌, ap, subst, arith, length-append, length-drop, append_assoc, take-append-drop}
 use Rattle.std.proofs.lemmas.List.{length-map, map-append, take-map, drop-map, take_at, drop_at, drop-drop, length-take-le}
 use Rattle.cc_disk.specs.Model.{Cell, unsettled, bytes_of, IsImage, written, synced}
@@ -49,7 +49,7 @@ join_images [] back (b ∷ x) y here there = absurd here
 join_images (c ∷ prefix) back [] y here there = absurd here
 join_images (c ∷ prefix) back (b ∷ x) y here there = (here.0, join_images prefix back x y here.1 there)
 
--- three parts that make the whole
+-- the cells before a range, in it and after it are all the cells
 in_parts : (cells : List Cell) (offset n : ℕ) → take offset cells ++ (take n (drop offset cells) ++ drop (offset + n) cells) ≡ cells
 in_parts cells offset n =
     ap (λ (l : List Cell). take offset cells ++ (take n (drop offset cells) ++ l)) (sym (drop-drop n offset cells))

@@ -1,4 +1,5 @@
--- One more state joins those that a disk was in. What a crash since a moment may have left then also has what it may leave now.
+-- If one more state joins those that a disk was in, what a crash since a moment may have left grows by what a crash may leave
+-- in this state.
 use Rattle.std.proofs.Common.{◌≡◌, ◌⊎◌, inl, inr, ⊎_elim, ℕ, zero, suc, ◌≤◌, List, [], ◌∷◌, ◌++◌, length, drop, refl, sym, subst, arith, length-append}
 use Rattle.cc_disk.specs.Model.{Cell, IsImage}
 use Rattle.cc_disk.specs.Images.{Elapses}

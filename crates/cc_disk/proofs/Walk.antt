@@ -1,4 +1,5 @@
--- The machine values of the two proofs about a history: a struct without fields, and one with that as its only field.
+-- The machine values of the two proofs about a history: a struct without fields, and a struct with that one as its
+-- only field.
 use Rattle.std.proofs.Common.{List, [], ◌∷◌, refl}
 use seplogic.Ra.Ura.{Ura}
 use mir.Val.{Val, vstruct, vcons, vnil}
@@ -18,7 +19,7 @@ one_field u = vstruct (vcons u vnil)
 abbrev pub fields_only : List RattleType → RattleType
 fields_only Rs = Struct (record { name = []; args = []; types = []; fields = Rs })
 
--- what owns the field's value owns the struct with that field
+-- owning the value of a field is owning the struct with only that field
 pub wrapped : {M : Type 1} {𝓤 : Ura M} {𝓛 : Logic 𝓤} {K : Type 0} {Γ : List (Item 𝓤)} {G : Goal 𝓤 𝓛.H} → K → (R : RattleType) (x : R.Denot) (u : Val)
     → Step K 𝓛 (‵ ((fields_only (R ∷ [])).own_val (x, tt) (one_field u ∷ [])) ∷ Γ) G (‵ (R.own_val x (u ∷ [])) ∷ Γ) G
 wrapped t R x u = step (λ s.

@@ -1,4 +1,5 @@
--- The cells that a list of bytes and a list of marks represent, after copying and filling ranges of the lists.
+-- The cells that a list of bytes and a list of marks represent, after ranges of the lists are copied and
+-- filled.
 use Rattle.std.proofs.Common.{◌≡◌, ℕ, zero, suc, Bool, true, false, ◌+◌, ◌<◌, ◌≤◌, List, [], ◌∷◌, ◌++◌, map, length, replicate, get_or, take, drop, refl, sym, ◌∙◌, ap, arith, append_assoc}
 use Rattle.std.proofs.lemmas.List.{length-take-le, length-map, length-replicate, map-append}
 use Rattle.std.proofs.Math.Seq.{drop-nil}
@@ -37,7 +38,7 @@ cells-drop (suc k) (b ∷ bytes) [] = none (drop k bytes)
     none (x ∷ l) = refl
 cells-drop (suc k) (b ∷ bytes) (m ∷ marks) = cells-drop k bytes marks
 
--- all marks alike
+-- if all marks are alike, each byte becomes a cell with this mark
 pub cells-alike : (bytes : List ℕ) (mark : Bool) → cells_of bytes (replicate (length bytes) mark) ≡ map (λ byte. record { byte = byte; settled = mark }) bytes
 cells-alike [] mark = refl
 cells-alike (b ∷ bytes) mark = ap (λ (l : List Cell). record { byte = b; settled = mark } ∷ l) (cells-alike bytes mark)
@@ -46,13 +47,13 @@ pub cells-new : (n : ℕ) → cells_of (replicate n 0) (replicate n true) ≡ ne
 cells-new zero = refl
 cells-new (suc n) = ap (λ (l : List Cell). settled 0 ∷ l) (cells-new n)
 
--- a sync fills the marks
+-- setting all marks is a sync of the cells
 pub cells-synced : (bytes : List ℕ) (marks : List Bool) → length bytes ≡ length marks → cells_of bytes (replicate (length marks) true) ≡ synced (cells_of bytes marks)
 cells-synced [] marks same = refl
 cells-synced (b ∷ bytes) [] same = absurd (omega (arith, same))
 cells-synced (b ∷ bytes) (m ∷ marks) same = ap (λ (l : List Cell). settled b ∷ l) (cells-synced bytes marks (omega (arith, same)))
 
--- a write copies its bytes and clears their marks
+-- copying bytes and clearing their marks is a write to the cells
 pub cells-written : (bytes : List ℕ) (marks : List Bool) (offset : ℕ) (new : List ℕ) → length bytes ≡ length marks → offset + length new ≤ length bytes
     → cells_of (take offset bytes ++ (new ++ drop (offset + length new) bytes)) (take offset marks ++ (replicate (length new) false ++ drop (offset + length new) marks))
     ≡ written (cells_of bytes marks) offset new
@@ -66,7 +67,7 @@ cells-written bytes marks offset new same fits =
     ∙ ap (λ (l : List Cell). l ++ cells_of (drop (offset + n) bytes) (drop (offset + n) marks)) (cells-alike new false)
     ∙ ap (λ (l : List Cell). map unsettled new ++ l) (cells-drop (offset + n) bytes marks))
 
--- the cell at an index, and those after it
+-- the cells from index i on are the cell at i and those after it
 pub cells-from : (i : ℕ) (bytes : List ℕ) (marks : List Bool) → i < length bytes → length bytes ≡ length marks → (d : ℕ) (e : Bool)
     → drop i (cells_of bytes marks) ≡ record { byte = get_or bytes i d; settled = get_or marks i e } ∷ drop (suc i) (cells_of bytes marks)
 cells-from i [] marks within same d e = absurd (omega (arith, within))
@@ -74,7 +75,8 @@ cells-from i (b ∷ bytes) [] within same d e = absurd (omega (arith, same))
 cells-from zero (b ∷ bytes) (m ∷ marks) within same d e = refl
 cells-from (suc i) (b ∷ bytes) (m ∷ marks) within same d e = cells-from i bytes marks (omega (arith, within)) (omega (arith, same)) d e
 
--- one more byte of a crash: its choice, and what is chosen from there on
+-- if a crash leaves one more cell with its chosen byte, the cells so far and the crash of the rest still make
+-- up the whole crash
 crash-more : (cells : List Cell) (i : ℕ) (cell : Cell) (after choice : List ℕ) (byte x : ℕ) (rest : List ℕ) → drop i cells ≡ cell ∷ drop (suc i) cells
     → settled byte ≡ left cell x → map settled after ++ crashed (drop i cells) (x ∷ rest) ≡ crashed cells choice
     → map settled (after ++ byte ∷ []) ++ crashed (drop (suc i) cells) rest ≡ crashed cells choice
@@ -85,7 +87,7 @@ crash-more cells i cell after choice byte x rest here is so_far =
     ∙ ap (λ (l : List Cell). map settled after ++ crashed l (x ∷ rest)) (sym here)
     ∙ so_far
 
--- one more byte of a crash, whatever is left of the choice
+-- the same step, with 0 as the chosen byte if the choice is used up
 pub crash-step : (cells : List Cell) (i : ℕ) (cell : Cell) (after choice : List ℕ) (byte : ℕ) (rest : List ℕ) → drop i cells ≡ cell ∷ drop (suc i) cells
     → settled byte ≡ left cell (get_or rest 0 0) → map settled after ++ crashed (drop i cells) rest ≡ crashed cells choice
     → map settled (after ++ byte ∷ []) ++ crashed (drop (suc i) cells) (drop 1 rest) ≡ crashed cells choice
@@ -102,7 +104,7 @@ length-crashed [] choice = refl
 length-crashed (c ∷ cells) [] = ap suc (length-crashed cells [])
 length-crashed (c ∷ cells) (x ∷ choice) = ap suc (length-crashed cells choice)
 
--- a crash leaves as many bytes as there were
+-- a crash leaves as many bytes as the disk had
 pub length-left : (bytes : List ℕ) (marks : List Bool) (choice after : List ℕ) → length bytes ≡ length marks
     → map settled after ≡ crashed (cells_of bytes marks) choice → length after ≡ length bytes
 length-left bytes marks choice after same is =

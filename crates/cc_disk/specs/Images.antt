@@ -1,21 +1,21 @@
--- What every honest disk promises about its calls, in terms of what a read gives and of what a crash may leave, its images.
+-- What every honest disk promises about its calls, in terms of what a read gives and of its images: what a crash may leave.
 use Rattle.std.specs.Prelude.{◌≡◌, ◌⊎◌, ℕ, ◌+◌, ◌≤◌, List, ◌++◌, length, take, drop}
 
--- new is old with these bytes written from that offset on
+-- `new` is `old` with these bytes written from `offset` on
 abbrev pub IsWritten : List ℕ → ℕ → List ℕ → List ℕ → Type 0
 IsWritten old offset bytes new = new ≡ take offset old ++ (bytes ++ drop (offset + length bytes) old)
 
--- new is as long as old, and differs from it at most in the n bytes from that offset on
+-- `new` is as long as `old`, and differs from it at most in the n bytes from `offset` on
 pub record DiffersWithin (offset n : ℕ) (old new : List ℕ) : Type 0 where
   pub before : take offset new ≡ take offset old
   pub behind : drop (offset + n) new ≡ drop (offset + n) old
   pub size : length new ≡ length old
 
--- each image afterwards is an image from before, except for the n bytes from that offset on
+-- each image afterwards is an image from before, except for the n bytes from `offset` on
 abbrev pub UnsettlesWithin : ℕ → ℕ → (List ℕ → Type 0) → (List ℕ → Type 0) → Type 0
 UnsettlesWithin offset n before after = (image : List ℕ) → after image → (old : List ℕ) × before old × DiffersWithin offset n old image
 
--- no image is added
+-- each image afterwards was an image before
 abbrev pub AddsNone : (List ℕ → Type 0) → (List ℕ → Type 0) → Type 0
 AddsNone before after = (image : List ℕ) → after image → before image
 
@@ -29,15 +29,14 @@ pub record Elapses (before now : ℕ) (past since : ℕ → List ℕ → Type 0)
   pub nothing_else : (t : ℕ) (image : List ℕ) → t ≤ before → since t image → past t image ⊎ may_leave image
   pub keeps : (t : ℕ) (image : List ℕ) → t ≤ before → past t image → since t image
 
--- A crash at any moment from old to new leaves an image with the property P.
+-- A crash at any moment from `old` to `new` leaves an image with the property P.
 pub record LeavesOnly {D : Type 0} (moment : D → ℕ) (left_since : D → ℕ → List ℕ → Type 0) (old new : D) (P : List ℕ → Type 0) : Type 0 where
   pub later : moment old ≤ moment new
   pub each : (image : List ℕ) → left_since new (moment old) image → P image
-  -- the same for a run that began earlier
+  -- since any earlier moment, a crash may have left what it may have left before `old`, or an image with P
   pub before : (t : ℕ) (image : List ℕ) → t ≤ moment old → left_since new t image → left_since old t image ⊎ P image
 
--- Between old and new the disk was at most read and synced: it gives the same bytes, and a crash at any moment leaves only what
--- it could have left before.
+-- From `old` to `new` the disk was only read or synced: its bytes are the same, and a crash leaves only what it could have left before.
 pub record OnlyReads {D : Type 0} (seen : D → List ℕ) (may_leave : D → List ℕ → Type 0) (moment : D → ℕ) (left_since : D → ℕ → List ℕ → Type 0) (old new : D) : Type 0 where
   pub same : seen new ≡ seen old
   pub images : AddsNone (may_leave old) (may_leave new)

@@ -38,7 +38,7 @@ written cells offset bytes = take offset cells ++ (map unsettled bytes ++ drop (
 abbrev pub synced : List Cell → List Cell
 synced cells = map (λ (c : Cell). settled c.byte) cells
 
--- one byte after a crash that leaves this byte if it can
+-- one cell after a crash that leaves this byte if it can
 abbrev pub left : Cell → ℕ → Cell
 left cell byte = if cell.settled then settled cell.byte else settled byte
 

@@ -12,7 +12,7 @@ abbrev pub MayHaveLeft : List (List Cell) → List ℕ → Type 0
 MayHaveLeft [] image = ⊥
 MayHaveLeft (state ∷ states) image = IsImage state image ⊎ MayHaveLeft states image
 
--- The state now, or one before a call since the t-th. In the middle of a write its range is already as after the write, and in
--- the middle of a sync nothing has settled; so these are all moments.
+-- The state now, or one before a call since the t-th, may leave this image. During a write, the range that it writes already
+-- counts as written; during a sync, nothing counts as settled yet. So this covers every moment.
 abbrev pub LeftSince : List Cell → List (List Cell) → ℕ → List ℕ → Type 0
 LeftSince now past t image = IsImage now image ⊎ MayHaveLeft (drop t past) image

@@ -55,7 +55,7 @@ impl Cells {
         })
     }
 
-    /// Copies the bytes from `offset` on into the buffer.
+    /// Copies the bytes that begin at `offset` into the buffer.
     pub fn read(&self, offset: usize, buffer: &mut [u8])
         requires { offset + length buffer.old ≤ length self.now }
         ensures read { buffer.new ≡ take (length buffer.old) (drop offset (bytes_of self.now)) }
@@ -63,7 +63,7 @@ impl Cells {
         copy_part(&self.bytes, offset, buffer);
     }
 
-    /// Sets the cells from `offset` on to the bytes, unsettled.
+    /// Sets the cells that begin at `offset` to these bytes, unsettled.
     pub fn write(&mut self, offset: usize, bytes: &[u8])
         requires { offset + length bytes.now ≤ length self.old }
         ensures cells { self.new ≡ written self.old offset bytes.now }
@@ -80,7 +80,7 @@ impl Cells {
     }
 }
 
-// Copies the bytes from `offset` on into the buffer.
+// Copies the bytes that begin at `offset` into the buffer.
 fn copy_part(bytes: &[u8], offset: usize, buffer: &mut [u8])
     requires { offset + length buffer.old ≤ length bytes.now }
     ensures { buffer.new ≡ take (length buffer.old) (drop offset bytes.now) }
@@ -89,7 +89,7 @@ fn copy_part(bytes: &[u8], offset: usize, buffer: &mut [u8])
     buffer.copy_from_slice(&bytes[offset..end]);
 }
 
-// Sets the bytes from `offset` on to these.
+// Puts the bytes of `part` in place of those that begin at `offset`.
 fn put_part(bytes: &mut [u8], offset: usize, part: &[u8])
     requires { offset + length part.now ≤ length bytes.old }
     ensures { bytes.new ≡ take offset bytes.old ++ (part.now ++ drop (offset + length part.now) bytes.old) }
@@ -131,7 +131,7 @@ fn bytes_left(
     Ok(after)
 }
 
-// The byte after a crash. The crash may leave the chosen byte.
+// The byte after a crash that leaves the chosen byte if it can.
 fn byte_left(byte: u8, is_settled: bool, chosen: u8) -> u8
     ensures { settled result ≡ left (record { byte = byte; settled = is_settled }) chosen }
 {

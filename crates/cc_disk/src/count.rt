@@ -5,7 +5,7 @@ ghost use Rattle.std.specs.Prelude.{◌≡◌, ◌+◌, ◌-◌, ◌^◌, ℕ, m
 use crate::history::History;
 use std::marker::Model;
 
-/// How many failures there were. A clause reads it as a number.
+/// How many failures there were. A clause sees a number.
 #[derive(Drop)]
 pub struct FailureCount {
     shown: u64,

@@ -13,7 +13,7 @@ use std::path::Path;
 /// The offset of the name by which a journal on a disk is recognised.
 const NAME: usize = 1;
 
-/// How many bytes a journal has up to and including the one that says whether a record follows.
+/// How many bytes a journal has up to and including the one that says whether it has a record.
 const BEGINNING: usize = 17;
 
 /// The access rights of a new file: for its owner only.
@@ -24,9 +24,9 @@ const OWN: u32 = 0o600;
 /// Its kind is not honest, because no contract can say what a file holds. It keeps the rules of a disk only if some premises
 /// about the system hold, which `docs/DISK.md` lists. Each call of the disk makes at most one system call, and returns 35
 /// (DeviceFailed) if that call is refused or does less than was asked. After a failed sync every later call returns 35: the
-/// system may have dropped the pages that it could not write, and a later sync would not report that.
+/// system may have dropped the pages that it could not write, and a later sync would not report the loss.
 ///
-/// While it exists, no other process has the file open as a disk.
+/// While this value exists, no other process has the file open as a disk.
 pub struct FileDisk {
     file: fs::File,
     size: usize,
@@ -35,7 +35,7 @@ pub struct FileDisk {
     lost: bool,
 }
 
-// Makes a file at a path that nothing has.
+// Makes a file at a path that must be free.
 fn make_new(rt: &HostRuntime, path: &str) -> io::Result<fs::File> {
     let mut how = OpenOptions::new();
     how.read(true).write(true).create_new(true).mode(OWN);
@@ -45,12 +45,12 @@ fn make_new(rt: &HostRuntime, path: &str) -> io::Result<fs::File> {
     Ok(file)
 }
 
-// Opens a file, and makes it if it is not there. A new file has its rights from the first moment, because whoever has opened a
-// file keeps access to it.
+// Opens a file, or makes it if it does not exist. A new file has its access rights from the first moment, because whoever has
+// opened a file keeps access to it.
 fn open_or_make(rt: &HostRuntime, path: &str) -> io::Result<fs::File> {
     match make_new(rt, path) {
         Ok(file) => Ok(file),
-        // The file is there, or a link to it.
+        // The file exists, or a link to it does.
         Err(_) => {
             let mut how = OpenOptions::new();
             how.read(true).write(true).create(true).mode(OWN);
@@ -59,7 +59,7 @@ fn open_or_make(rt: &HostRuntime, path: &str) -> io::Result<fs::File> {
     }
 }
 
-// Written by hand, so that the crates above use this proof and need not show again how each part is dropped.
+// Written by hand, so that crates that use this one rely on this proof and need not prove again how each part is dropped.
 impl Drop for FileDisk {
     fn drop(self) {
         let FileDisk {
@@ -73,10 +73,11 @@ impl Drop for FileDisk {
 
 impl FileDisk {
     /// Makes a disk on a file of `size` zeros, in place of any file at the path. Its space is allocated, and the file and its
-    /// name are synced. An old journal there is made unrecognisable, and that is synced, before the old file is cut: so a crash
-    /// leaves either the whole old journal or nothing that is recognised as one.
+    /// name are synced. An old journal there is made unrecognisable, and this is synced, before the old file is truncated, so a
+    /// crash leaves either the whole old journal or nothing that is recognised as a journal.
     ///
-    /// A block device is not cut. The disk is its first `size` bytes; the first 17 become zeros, the others stay as they were.
+    /// A block device is not truncated. The disk is its first `size` bytes; the first 17 become zeros, the others stay as they
+    /// were.
     ///
     /// A new file gets the access rights 0600, whatever the umask, because it will have the sources of all units. An existing
     /// file keeps its rights.
@@ -91,8 +92,7 @@ impl FileDisk {
         FileDisk::on(rt, open_or_make(rt, path)?, path, size)
     }
 
-    /// Makes a disk as `create` does, at a path that must be free: fails with 35 if something is there, and leaves that
-    /// unchanged.
+    /// Makes a disk as `create` does, at a path that must be free: fails with 35 if something is there, and leaves it unchanged.
     pub fn create_new(rt: &HostRuntime, path: &str, size: usize) -> Result<FileDisk, DiskFault>
         ensures size { IfOk result (λ disk. disk.size ≡ size) }
         ensures failed { IfOk result (λ disk. disk.failed ≡ 0) }
@@ -101,7 +101,7 @@ impl FileDisk {
         FileDisk::on(rt, make_new(rt, path)?, path, size)
     }
 
-    // Makes a disk of zeros on this file, which has this path.
+    // Makes a disk of zeros on this file, which is at this path.
     fn on(rt: &HostRuntime, file: fs::File, path: &str, size: usize) -> Result<FileDisk, DiskFault>
         ensures size { IfOk result (λ disk. disk.size ≡ size) }
         ensures failed { IfOk result (λ disk. disk.failed ≡ 0) }
@@ -158,7 +158,7 @@ impl FileDisk {
         }
     }
 
-    // The result of a call that was done or not; a failure is counted.
+    // The result of a call, given whether it was done; a failure is counted.
     fn told(&mut self, done: bool) -> Result<(), DiskFault>
         ensures answer { is_ok result ≡ done }
         ensures failed { self.new.failed ≡ (if done then self.old.failed else self.old.failed + 1) }
@@ -192,8 +192,8 @@ fn lock(file: &fs::File) -> Result<(), DiskFault> {
     Ok(())
 }
 
-// How many bytes a block device has; `None` for a file that is not one. The system reports the length of a device as 0, and shows
-// its size by a seek to its end.
+// How many bytes a block device has, or `None` for a file that is not a block device. The system reports the length of a device
+// as 0; a seek to the device's end shows its size.
 fn device_size(file: &fs::File) -> Result<Option<usize>, DiskFault> {
     if !file.metadata()?.file_type().is_block_device() {
         return Ok(None);
@@ -202,7 +202,7 @@ fn device_size(file: &fs::File) -> Result<Option<usize>, DiskFault> {
     Ok(Some(device.seek(SeekFrom::End(0))? as usize))
 }
 
-// Whether a system call moved as many bytes as were asked for. Fewer count as a failure.
+// Whether a system call moved as many bytes as were asked for. Fewer bytes count as a failure.
 fn is_whole(answer: io::Result<usize>, wanted: usize) -> bool
     ensures { IsTrue result ↔ IsOkAnd answer (λ count. count ≡ wanted) }
 {
@@ -212,21 +212,21 @@ fn is_whole(answer: io::Result<usize>, wanted: usize) -> bool
     }
 }
 
-// Writes these bytes from `offset` on with one system call, and returns whether that wrote them all.
+// Writes these bytes at `offset` with one system call, and returns whether that call wrote them all.
 fn is_written(file: &fs::File, offset: usize, bytes: &[u8]) -> bool {
     is_whole(file.write_at(bytes, offset as u64), bytes.len())
 }
 
-// Fills the buffer from `offset` on with one system call, and returns whether that filled it.
+// Fills the buffer, with one system call, with the file's bytes at `offset`, and returns whether that call filled it.
 fn is_read(file: &fs::File, offset: usize, buffer: &mut [u8]) -> bool {
     let answer = file.read_at(buffer, offset as u64);
     is_whole(answer, buffer.len())
 }
 
 // Makes a journal on the file unrecognisable, then clears its beginning; each write is on the medium before the next call.
-// Otherwise a file system that fills a cut file with zeros in place could keep a journal's beginning, with zeros at arbitrary
-// places after it. A single byte is written first: torn or not, that write leaves the old journal whole or unrecognisable. The
-// file's length does not matter, since it may not have reached the medium either.
+// Otherwise a file system that fills a truncated file with zeros in place could keep a journal's beginning, with zeros at
+// arbitrary places after it. A single byte is written first: whether torn or not, this write leaves the old journal whole or
+// unrecognisable. The file's length does not matter, since it may not have reached the medium either.
 fn spoil(file: &fs::File) -> Result<(), DiskFault> {
     let zeros = [0u8; BEGINNING];
     if !is_written(file, NAME, &zeros[..1]) {

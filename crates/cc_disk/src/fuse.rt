@@ -9,22 +9,22 @@ use crate::disk::{Disk, DiskFault};
 /// What a fuse does when it blows.
 #[derive(Clone, Copy, Debug)]
 pub enum FuseMode {
-    /// Only the next call fails, and it does not reach the disk.
+    /// Only the next call fails, and does not reach the disk.
     Once,
     /// The next call and all later ones fail, and do not reach the disk.
     Before,
-    /// As `Before`, but if the next call is a write, it reaches the disk, unsettled, and then fails.
+    /// As `Before`, but if the next call is a write, its bytes reach the disk, unsettled, and the call then fails.
     Within,
 }
 
 // What happens to one call.
 #[derive(Clone, Copy)]
 enum Course {
-    // The disk does it.
+    // The call is passed on to the disk.
     Passes,
-    // It fails, and does not reach the disk.
+    // The call fails, and does not reach the disk.
     Fails,
-    // It is a write that reaches the disk and then fails.
+    // The call is a write that reaches the disk and then fails.
     WritesAndFails,
 }
 
@@ -39,7 +39,7 @@ pub struct FuseDisk<D: Disk> {
     failed: FailureCount,
 }
 
-// Written by hand, so that the crates above use this proof and need not show again how each part is dropped.
+// Written by hand, so that crates that use this one rely on this proof and need not prove again how each part is dropped.
 impl<D: Disk + Drop> Drop for FuseDisk<D> {
     fn drop(self) {
         let FuseDisk {
@@ -67,7 +67,7 @@ impl<D: Disk> FuseDisk<D> {
         }
     }
 
-    /// Returns the disk that it was made from, as the calls that reached that disk left it.
+    /// Returns the disk that the fuse disk was made from, as the calls that reached it have left it.
     pub fn into_disk(self) -> D
         ensures { result ≡ self.disk }
     {
@@ -98,7 +98,7 @@ fn next_course(mode: FuseMode, ahead: Option<u64>, write: bool) -> Course
     }
 }
 
-// How many calls pass before the fuse blows, after one more call.
+// How many calls still pass before the fuse blows, after one more call.
 fn one_less(ahead: Option<u64>) -> Option<u64>
     ensures { result ≡ after_call ahead }
 {
@@ -125,8 +125,8 @@ impl<D: Disk> Disk for FuseDisk<D> {
 
     ghost left_since = { λ fuse t image. D.left_since fuse.disk t image };
 
-    // The mode and the number of calls before decide: either the disk does the call, or the call fails and does not reach the
-    // disk.
+    // The mode and the number of calls that still pass decide whether the call is passed on to the disk, or fails and does not
+    // reach the disk.
     ghost reads = { λ old offset buffer ok after new. (new.ahead ≡ after_call old.ahead) × (new.mode ≡ old.mode)
         × (course_of old.mode old.ahead false ≡ Course.Passes
         → (new.failed ≡ old.failed) × D.reads old.disk offset buffer ok after new.disk)
@@ -171,7 +171,7 @@ impl<D: Disk> Disk for FuseDisk<D> {
                 Err(DiskFault::DeviceFailed)
             }
             Course::WritesAndFails => {
-                // If the disk itself fails, it has counted this call.
+                // If the disk itself fails, the disk has counted the failure.
                 self.disk.write_at(offset, bytes)?;
                 self.failed.add_one();
                 Err(DiskFault::DeviceFailed)

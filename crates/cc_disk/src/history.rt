@@ -5,7 +5,7 @@ ghost use Rattle.std.specs.Borrow.{ftrue};
 
 use std::marker::{Model, PhantomData};
 
-/// What has happened so far, newest last. A clause reads it as `items`.
+/// What has happened so far, newest last. A clause sees it as `items`.
 #[derive(Drop)]
 pub struct History<T> {
     of: PhantomData<T>,

@@ -4,7 +4,7 @@
 //! - `memory`: the disk in memory; `cells`: its bytes.
 //! - `file`: the disk on a file.
 //! - `fuse`: the disk that fails on purpose.
-//! - `history` and `count`: what only contracts remember.
+//! - `history` and `count`: what is kept for contracts.
 //!
 //! The crate exports `Disk`, `DiskFault`, `MemoryDisk`, `FileDisk`, `FuseDisk`, `FuseMode` and `History`.
 #![tactic(auto)]

@@ -24,7 +24,7 @@ pub struct MemoryDisk {
     past: History<Cells>,
 }
 
-// Written by hand, so that the crates above use this proof and need not show again how each part is dropped.
+// Written by hand, so that crates that use this one rely on this proof and need not prove again how each part is dropped.
 impl Drop for MemoryDisk {
     fn drop(self) {
         let MemoryDisk { cells, past } = self;

@@ -1,5 +1,5 @@
--- An earlier text has its unit, its program does what it did, and an image that agreed with it agrees. This follows from what `Texts`
--- shows about its tree, and `Runs` about its run.
+-- An earlier text still has its unit, its program does what it did, and an image that agreed with it still agrees. This follows from
+-- what `Texts` shows about its tree, and `Runs` about its run.
 use Rattle.std.proofs.Common.{◌≡◌, ℕ, List, sym, ap, ◌∙◌, subst}
 use Rattle.std.proofs.Math.Logic.{∥∥₁_map}
 use Rattle.cc_rv32.specs.declared.image.Image.{Image}
@@ -25,7 +25,7 @@ module _ (tokens : TokensAreOne) (trees : EarlierTreesStay) (none_new : NoTreeIs
   pub earlier_programs_stay : EarlierProgramsStay
   earlier_programs_stay text tree h = programs_stay meaning (source_with text tree) (plain_of text tree h)
 
-  -- what the program shows on an input, now and before
+  -- a program shows on an input what it showed before
   same_shown : (text : List ℕ) (tree : List External) → EarlierText text tree → (input : List ℕ)
       → program_behavior (source_with text tree) input ≡ earlier_program_behavior (source_with text tree) input
   same_shown text tree h input = λ i. λ n. ap without_cause (earlier_programs_stay text tree h input n) i

@@ -2,5 +2,6 @@
 mod Texts
 -- A part of a run over objects of words does what it did before there were arrays of `unsigned char`.
 mod Runs
--- An earlier text has its unit, its program does what it did, and an image that agreed with it agrees.
+-- An earlier text still has its unit, its program does what it did, and an image that agreed with it still
+-- agrees.
 mod Images

@@ -87,7 +87,7 @@ does_turns (suc n) test body behind tested ran followed p q r =
 does_block : (part : State → Run Flow) (was : earlier.State → earlier.Run Flow) → Does part was → Does (in_block part) (earlier.in_block was)
 does_block part was h = λ s are. same_then (part s) (was (before s)) (λ flow t. Gives flow (left_scope (length s.locals) t)) (λ flow t. earlier.Gives flow (earlier.left_scope (length s.locals) t)) (h s are) (λ flow t is. (is, refl))
 
--- the first part of a `for` header, then the loop
+-- if the first part of a `for` header and the loop do what they did, so do the two together
 does_header : (first : State → Run Flow) (began : earlier.State → earlier.Run Flow) (loop : State → Run Flow) (looped : earlier.State → earlier.Run Flow)
     → Does first began → Does loop looped → Does (in_block (λ t. then_do (first t) (λ flow u. loop u))) (earlier.in_block (λ t. earlier.then_do (began t) (λ flow u. looped u)))
 does_header first began loop looped h f =
@@ -193,7 +193,7 @@ module _ (stays : EarlierMeaningStays) where
     does_optional None bs = does_give Falls
     does_optional (Some a) bs = does_perform a bs
 
-    -- what follows the store of a declared local
+    -- if what follows the store of a declared local does what it did, so do the two together
     does_stored : (x : List ℕ) (w : ℕ) (go : State → Run Flow) (went : earlier.State → earlier.Run Flow) → Does go went → Does (λ s. go (stored x w s)) (λ s. went (earlier.stored x w s))
     does_stored x w go went h = does_then (λ s. Gives Falls (stored x w s)) (λ s. earlier.Gives Falls (earlier.stored x w s)) (λ flow. go) (λ flow. went) (does_store x w) (λ flow. h)
 

@@ -197,7 +197,8 @@ read_same : (gs : List Global) (x : List ℕ) → global_words gs x ≡ earlier_
 read_same [] x = refl
 read_same (g ∷ rest) x = ap (λ (ws : List ℕ). if same_name g.name x then g.words else ws) (read_same rest x)
 
--- the objects after a write, whether or not the first has the name
+-- objects whose elements are words still have words as elements after a write, whether or not the first
+-- object is the one written
 written_words : (x : List ℕ) (i w : ℕ) (g : Global) (rest : List Global) (b : Bool) → AreOfWords (g ∷ rest) → AreOfWords (with_element x i w rest)
     → AreOfWords (if b then record g { words = slice_set g.words i (kept g.width w) } ∷ rest else g ∷ with_element x i w rest)
 written_words x i w g rest true h ih = (h.0, h.1)
@@ -218,7 +219,7 @@ write_same : (x : List ℕ) (i w : ℕ) (gs : List Global) → AreOfWords gs →
 write_same x i w [] h = refl
 write_same x i w (g ∷ rest) h = written_same x i w g rest (same_name g.name x) h.0 (write_same x i w rest h.1)
 
--- if one of two objects of the same sizes is of words, so is the other
+-- these parts of a list of sizes show that objects of the same sizes as objects of words are of words too
 abbrev first_width : List NamedSize → Width
 first_width [] = Word
 first_width (z ∷ zs) = z.width

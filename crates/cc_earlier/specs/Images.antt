@@ -1,7 +1,7 @@
 -- A text that had a typed unit before there were arrays of `unsigned char` has the same unit and the same behavior, and an image that
 -- agreed with it still agrees. The past is described by the clauses as they were then: the grammar, the rules and the limits by those of
--- `Texts`, a run by `Meaning`. A reader has to compare one thing: that each other clause to which they lead has the same text as then, as
--- those pages say, and that the machine and `Follows` have the same text too.
+-- `Texts`, a run by `Meaning`. A reader has to check one thing: that all other clauses that these use, the machine and `Follows` among
+-- them, have the same text as then, as those pages say.
 use Rattle.std.specs.Prelude.{◌≡◌, ℕ, true, List, []}
 use Rattle.cc_rv32.specs.declared.image.Image.{Image}
 use Rattle.cc_tokens.specs.Token.{Lexeme}
@@ -27,7 +27,7 @@ EarlierTyped tree = (earlier_externals_errors tree first_file_scope ≡ []) × (
 abbrev pub earlier_program_behavior : Source → (input : List ℕ) → ℕ → Outcome ℕ
 earlier_program_behavior source input n = without_cause (earlier.source_behavior source input n)
 
--- the tree that the text had, and that the image's run followed its run
+-- the text had a tree, and the image's run followed the run of that tree
 pub record EarlierAgreement (text : List ℕ) (image : Image) : Type 0 where
   pub tree : List External
   pub spelled : EarlierText text tree
@@ -38,7 +38,7 @@ pub record EarlierAgreement (text : List ℕ) (image : Image) : Type 0 where
 abbrev pub EarlierAgree : List ℕ → Image → Type 0
 EarlierAgree text image = ∥ EarlierAgreement text image ∥₁
 
--- a text that had a typed unit within the limits has it now
+-- a text that had a typed unit within the limits still has it
 abbrev pub EarlierUnitsStay : Type 0
 EarlierUnitsStay =
     (text : List ℕ) (tree : List External) → EarlierText text tree → EarlierTyped tree → earlier_excesses tree ≡ []
@@ -50,11 +50,11 @@ EarlierProgramsStay =
     (text : List ℕ) (tree : List External) → EarlierText text tree
     → (input : List ℕ) (n : ℕ) → source_behavior (source_with text tree) input n ≡ earlier.source_behavior (source_with text tree) input n
 
--- an image that agreed with a text agrees with it now
+-- an image that agreed with a text still agrees with it
 abbrev pub EarlierImagesAgree : Type 0
 EarlierImagesAgree = (text : List ℕ) (image : Image) → EarlierAgree text image → Agree text image
 
--- no image that did not agree then agrees now with a text without the word `char`
+-- if a text does not have the word `char`, no image agrees with it now that did not agree then
 abbrev pub NoAgreementIsNew : Type 0
 NoAgreementIsNew =
     (text : List ℕ) (tokens : List Lexeme) (image : Image) → IsTokens text tokens → HasNoChar tokens → Agree text image → EarlierAgree text image

@@ -2,5 +2,5 @@
 pub mod Texts
 -- the clauses of a run as they were then
 pub mod Meaning
--- that an earlier text has its unit, does what it did and agrees with the images with which it agreed
+-- an earlier text has the unit that it had, does what it did, and agrees with the images with which it agreed
 pub mod Images

@@ -38,7 +38,7 @@ pub data Run (A : Type 0) : Type 0 where
   Going : List ℕ → Run A
   Wrong : Cause → List ℕ → Run A
 
--- one part of a run, then another with what the first gave
+-- one part of a run, then another one, which gets the result of the first
 abbrev pub then_do : {A B : Type 0} → Run A → (A → State → Run B) → Run B
 then_do (Gives x s) go = go x s
 then_do (Going output) go = Going output
@@ -55,7 +55,7 @@ Calls = List ℕ → List ℕ → State → Run ℕ
 
 -- ---- variables and elements by name
 
--- the word of a variable: a local hides what file scope has (6.2.1, 6.5.1)
+-- the word of a variable: a local hides an object at file scope (6.2.1, 6.5.1)
 abbrev pub variable_word : List ℕ → State → ℕ
 variable_word x s = unwrap_or (local_word s.locals x) (unwrap_or (slice_get (earlier_words_of s.globals x) 0) 0)
 
@@ -78,12 +78,12 @@ write_element x i w s =
 
 -- ---- expressions
 
--- gives the word that an operator gives, or goes wrong
+-- gives the value of an operator, or goes wrong if it has none
 abbrev pub given : BinaryOperator → Option ℕ → State → Run ℕ
 given op None s = Wrong (cause_of op) s.output
 given op (Some w) s = Gives w s
 
--- gives the word that is decided already, else goes on
+-- gives the word if it is decided already, else goes on
 abbrev pub unless_decided : Option ℕ → (State → Run ℕ) → State → Run ℕ
 unless_decided None go s = go s
 unless_decided (Some w) go s = Gives w s
@@ -131,7 +131,7 @@ abbrev pub write : Destination → ℕ → State → Run Flow
 write (ToVariable x) w s = Gives Falls (stored x w s)
 write (ToElement x i) w s = write_element x i w s
 
--- what is written, given the right side's word: this word for `=`, else what the operator gives for the old value and this word
+-- what is written, given the right side's word: this word for `=`, else the operator's value for the old value and this word
 abbrev pub new_value : Option BinaryOperator → Scalar → Scalar → Destination → ℕ → State → Run ℕ
 new_value None t u d w s = Gives w s
 new_value (Some op) t u d w s = then_do (old_value d s) (λ old v. given op (binary_word op (working_type op t u) old w) v)
@@ -201,7 +201,7 @@ abbrev pub start : Beginning → Calls → Visible → State → Run Flow
 start (Declares t ds) call v s = declare t ds call v s
 start (Performs a) call v s = perform_optional a (in_scope v) call s
 
--- after a scope only the oldest locals stay, as many as there were before it (6.2.1)
+-- after a scope only the oldest locals are left, as many as there were before it (6.2.1)
 abbrev pub left_scope : ℕ → State → State
 left_scope before s = record s { locals = drop (length s.locals - before) s.locals }
 
@@ -215,8 +215,8 @@ in_block part s = then_do (part s) (λ flow t. Gives flow (left_scope (length s.
 abbrev pub return : Option Expr → List Binding → Calls → State → Run Flow
 return e bs call s = then_do (evaluate_or 0 e bs call s) (λ w t. Gives (Returns w) t)
 
--- what a statement does, and a list of statements, if at most n steps are left (6.8). A block and each part of a statement are scopes, and
--- a `for` header is a scope around its body (6.8.2, 6.8.4, 6.8.5); a condition that is left out counts as true (6.8.5.3)
+-- what a statement or a list of statements does, if at most n steps are left (6.8). A block and each part of a statement are scopes, and a
+-- `for` header is a scope around its body (6.8.2, 6.8.4, 6.8.5); a condition that is left out counts as true (6.8.5.3)
 abbrev mutual
   pub execute : Stmt → ℕ → Calls → Visible → State → Run Flow
   execute (Block all) n call v s = in_block (execute_all all n call (opened v)) s
@@ -247,7 +247,7 @@ abbrev mutual
 
 -- ---- functions
 
--- the body of a function on the words of its arguments: its only locals are the parameters, and its caller's locals are back after it
+-- the body of a function on the words of its arguments: its only locals are the parameters, and afterwards its caller's locals are back
 abbrev pub run_body : Function → ℕ → Calls → List ℕ → State → Run ℕ
 run_body f n call ws s =
     then_do (execute_all f.body n call f.visible (record s { locals = bound f.parameters ws [] }))

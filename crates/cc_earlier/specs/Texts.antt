@@ -1,8 +1,8 @@
 -- A text that had a tree, a typed unit and a meaning before there were arrays of `unsigned char` has the same ones now. The clauses that
 -- such arrays changed are here as they were then, each with `earlier_` before its name. What is claimed: each present clause does the same
--- if no object is such an array, and no object of an earlier text is one. A reader has to compare one thing: that every other clause of the
--- grammar, the rules, the limits and the meaning is as it was. None of them has a different text now, except clauses on arrays of `unsigned
--- char` themselves.
+-- if no object is such an array, and no object of an earlier text is one. A reader has to check one thing: that every other clause of the
+-- grammar, the rules, the limits and the meaning is as it was. None of them has a different text now, except clauses on arrays of
+-- `unsigned char` themselves.
 use Rattle.std.specs.Prelude.{◌≡◌, ℕ, ◌+◌, ◌-◌, List, [], ◌∷◌, ◌++◌, length, map, replicate, nat_lt, if◌then◌else◌, Some, None, unwrap_or, slice_set}
 use Rattle.std.specs.List.{AllByRecursion}
 use Rattle.cc_words.specs.declared.operators.Width.TheVariants.{Word}
@@ -179,8 +179,8 @@ StayOfWords (Answers a left) = AreOfWords a.shared.globals
 StayOfWords (Unfinished output) = Unit {0}
 StayOfWords (Failed cause output) = Unit {0}
 
--- The clauses on objects read their words, write an element, and give the objects before the run. Each does what it did: an earlier tree
--- begins with objects of words, a write leaves them of words, and so does each call and each body
+-- The clauses on objects read their words, write an element, and say what the objects are before the run. Each clause does what it did: an
+-- earlier tree begins with objects of words, and each write, each call and each body leaves them of words
 pub record EarlierMeaningStays : Type 0 where
   pub begins : (tree : List External) → ArePlain tree → AreOfWords (initial_globals tree) × (map earlier_global (initial_globals tree) ≡ earlier_initial_globals tree)
   pub reads : (gs : List Global) (x : List ℕ) → global_words gs x ≡ earlier_words_of (map earlier_global gs) x

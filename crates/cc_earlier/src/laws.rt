@@ -1,5 +1,4 @@
-// What holds for texts from before there were arrays of `unsigned char`, according to the clauses as they were then and as they
-// are now.
+// What holds for texts from before there were arrays of `unsigned char`, according to the clauses of that time and to those of today.
 
 ghost use Rattle.cc_earlier.specs.Texts.{EarlierTreesStay, NoTreeIsNew, EarlierRulesStay, EarlierMeaningStays};
 ghost use Rattle.cc_earlier.specs.Images.{EarlierImagesAgree, EarlierProgramsStay, EarlierUnitsStay, NoAgreementIsNew};
@@ -7,8 +6,9 @@ ghost use Rattle.cc_earlier.specs.Images.{EarlierImagesAgree, EarlierProgramsSta
 use cc_syntax::trees_are_determined;
 use cc_tokens::tokens_are_determined;
 
-/// A text that had a tree before there were arrays of `unsigned char` has it now, and has no other. It keeps the rules and limits that it
-/// kept, and each clause of the meaning does what it did. A text without the word `char` has no tree now that it did not have then.
+/// A text that had a tree before there were arrays of `unsigned char` still has it and no other one. It keeps the rules and limits that
+/// it kept, and each clause of the meaning does the same on it as before. A text without the word `char` has no tree now that it did not
+/// have then.
 pub fn earlier_texts_stay()
     ensures trees { EarlierTreesStay }
     ensures none_new { NoTreeIsNew }
@@ -19,8 +19,9 @@ pub fn earlier_texts_stay()
     trees_are_determined();
 }
 
-/// A text that had a typed unit before there were arrays of `unsigned char` has it now, and its program does what it did. An image that
-/// agreed with the text agrees with it now. No image that did not agree then agrees now with a text without the word `char`.
+/// A text that had a typed unit before there were arrays of `unsigned char` still has it, and its program does what it did. An image that
+/// agreed with the text still agrees with it. If a text does not have the word `char`, no image agrees with it now that did not agree
+/// then.
 pub fn earlier_images_agree()
     ensures units { EarlierUnitsStay }
     ensures programs { EarlierProgramsStay }

@@ -68,7 +68,7 @@ behind_append : (a : ℕ) (xs ys : List Object) → address_behind a (xs ++ ys) 
 behind_append a [] ys = refl
 behind_append a (o ∷ xs) ys = behind_append (a + 4 * object_words o) xs ys
 
--- the same holds after the addresses of a declaration's objects were added
+-- `Listing` still holds after the addresses of a declaration's objects are added
 pub listing_some : (all : List Object) (new new' : List ℕ) (a b : ℕ) (os rest : List Object) → Listing globals_from all [] new a (os ++ rest) → new' ≡ new ++ bases_from a os → b ≡ address_behind a os → Listing globals_from all [] new' b rest
 listing_some all new new' a b os rest h e s = record {
   bases = ap (λ n. new' ++ bases_from n rest) s ∙ ap (λ xs. xs ++ bases_from (address_behind a os) rest) e ∙ append_assoc new (bases_from a os) (bases_from (address_behind a os) rest) ∙ ap (λ xs. new ++ xs) (sym (bases_append a os rest)) ∙ h.bases;
@@ -89,7 +89,7 @@ length_bases : (a : ℕ) (os : List Object) → length (bases_from a os) ≡ len
 length_bases a [] = refl
 length_bases a (o ∷ os) = ap suc (length_bases (a + 4 * object_words o) os)
 
--- the sum of the entries before the entry with that number
+-- the sum of the entries before entry number `g`
 abbrev sum_before : List ℕ → ℕ → ℕ
 sum_before [] g = 0
 sum_before (n ∷ ns) zero = 0

@@ -1,5 +1,5 @@
--- The code: the steps so far, each with what is known about its address, followed by those of the rest, are all the steps of the
--- function.
+-- The steps so far, each with what is known about the address that it accesses, followed by those of the rest, are all the steps
+-- of the function.
 use Rattle.std.proofs.Common.{◌≡◌, ℕ, ◌+◌, ◌*◌, ◌^◌, ◌<◌, ◌≤◌, Bool, true, false, List, [], ◌∷◌, ◌++◌, length, get_or, drop, nat_lt, refl, sym, ap, ap₂, ◌∙◌, subst, append_assoc, arith}
 use Rattle.std.specs.Prelude.{if◌then◌else◌}
 use Rattle.std.specs.List.{AllByRecursion}

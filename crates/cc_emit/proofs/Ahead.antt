@@ -89,6 +89,6 @@ early_whole base slots code e head rest items is eh er ei =
     let bare : whole_items base 0 e.head ≡ items_with base false 0 e.head = ap (λ b. items_with base b 0 e.head) (head_gains base code e (early_says slots code e is)) in
     ei ∙ ap₂ behind (eh ∙ bare) er ∙ ap (λ z. early_items base slots z code) (sym is)
 
--- a list from one place to its end
+-- the part of a list from place `n` to the end is what is left after the first `n` items
 pub rest_from : (code : List Step) (n : ℕ) → take (length code - n) (drop n code) ≡ drop n code
 rest_from code n = (let long = length-drop n code in take_all (length code - n) (drop n code) (omega arith))

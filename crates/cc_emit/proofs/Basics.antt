@@ -127,7 +127,7 @@ pub rest_words : (xs : List ℕ) → AreWords xs → AreWords (rest_of xs)
 rest_words [] p = tt
 rest_words (x ∷ xs) p = p.1
 
--- the machine takes its input as the world takes its input
+-- the machine reads its input as the world does
 pub same_first : (xs : List ℕ) → machine.first_or_zero xs ≡ first_or_zero xs
 same_first [] = refl
 same_first (x ∷ xs) = refl

@@ -26,7 +26,7 @@ use Rattle.cc_emit.specs.Emission.{first_instr}
 use Rattle.cc_emit.proofs.Basics.{eqb_says}
 use Rattle.cc_emit.proofs.Recipes.{IsRightWord, next_s, not_zero}
 
--- a condition holds for the registers' words exactly if a word is not 0
+-- a condition holds for the words of its registers exactly if the word `v` is not 0
 abbrev pub Tells : Condition → (registers : ℕ → ℕ) → (v : ℕ) → Type 0
 Tells c g v = is_taken c.operation (g c.left) (g c.right) ≡ not (v == 0)
 
@@ -137,7 +137,7 @@ opposed_tells None g u c f e = none_some c e
 opposed_tells (Some d) g u c f e =
     subst (λ b. Tells b g (lt_u u 1)) (some (opposed d) c e) (opposite_taken d.operation (g d.left) (g d.right) ∙ ap not (f d refl) ∙ not_not (u == 0) ∙ sym (zero_told u))
 
--- the branch on x0 that a recipe has shows whether the recipe's word is 0
+-- if a comparison of a register with x0 replaces a recipe, the branch shows whether the recipe's word is 0
 pub alone_tells : (k : WordRecipe) (a : ℕ) (g : ℕ → ℕ) (v : ℕ) (c : Condition) → g 0 ≡ 0 → IsWord (g a) → IsRightWord k (g a) v → against_zero k a ≡ Some c → Tells c g v
 alone_tells (WithImmediate i n) a g v c z w right e = subst (Tells c g) right (immediate_tells i n a g c z w e)
 alone_tells (ShiftBy i n) a g v c z w right e = none_some c e
@@ -163,7 +163,8 @@ first_executes floor (OnZero i) to a s z = ap (λ n. puts to (computed i n (s.re
 first_executes floor (ZeroOfImmediate i n) to a s z = refl
 first_executes floor (NonzeroOfImmediate i n) to a s z = refl
 
--- the first word is a word, and how it compares with 0 shows whether the recipe's word is 0
+-- the result of the recipe's first instruction is a word, and how it compares with 0 shows whether the
+-- recipe's word is 0
 abbrev pub TellsFirst : WordRecipe → (w v : ℕ) → Type 0
 TellsFirst k w v = (first_word k w < 2 ^ 32) × (is_taken (asked_of k) (first_word k w) 0 ≡ not (v == 0))
 

@@ -144,7 +144,7 @@ place_is f all first second end l p leads lt = let e = sum_of f all first second
 pub place_within : (f : Frame) (all : List Addressed) (first second : List ℕ) (end l : ℕ) → ArePlaces f all first second end → AllByRecursion (LeadsBelow (length first)) all → l < length second → get_or second l 0 ≤ end
 place_within f all first second end l p leads lt = let long = p.of_second.long in let e = sum_of f all first second end l p leads (omega arith) in omega arith
 
--- ---- the items that were put so far
+-- ---- the items that were emitted so far
 
 pub record Emitting (base : ℕ → ℕ) (f : Frame) (all : List Addressed) (index here : ℕ) (items : List PieceItem) : Type 0 where
   pub long : ℕ

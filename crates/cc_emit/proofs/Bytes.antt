@@ -1,6 +1,6 @@
 -- The machine's memory element by element. The machine keeps a word at each multiple of 4, and a byte is a part of one. So each fact
--- follows from the one about words, and for bytes also from one about the parts of a word, for each of the four places that a byte can have
--- in it.
+-- follows from the fact about words. For bytes each fact also needs one about the parts of a word, for each of the four places of a byte
+-- in a word.
 use Rattle.std.proofs.Common.{◌≡◌, ℕ, zero, suc, ◌+◌, ◌-◌, ◌*◌, ◌/◌, ◌%◌, ◌^◌, ◌<◌, ◌≤◌, ◌⊎◌, true, refl, sym, ap, ◌∙◌, inl, inr, arith}
 use Rattle.std.proofs.lemmas.Bool.Decides.{eqb_tells, nat_tests}
 use Rattle.cc_words.specs.declared.operators.Width.{Width}
@@ -23,7 +23,7 @@ same_tells Word Byte e = absurd (cc)
 abbrev pub byte_in : (w k : ℕ) → ℕ
 byte_in w k = w / 2 ^ (8 * k) % 2 ^ 8
 
--- a byte that is put into a word is found there
+-- a byte that is put into a word is found in it
 pub byte_same : (w v k : ℕ) → k < 4 → byte_in (with_part w (8 * k) 8 v) k ≡ v % 2 ^ 8
 byte_same w v zero lt = omega arith
 byte_same w v (suc zero) lt = omega arith
@@ -55,7 +55,7 @@ byte_other w v (suc zero) (suc (suc (suc (suc j)))) lk lj e = absurd (omega arit
 byte_other w v (suc (suc zero)) (suc (suc (suc (suc j)))) lk lj e = absurd (omega arith)
 byte_other w v (suc (suc (suc zero))) (suc (suc (suc (suc j)))) lk lj e = absurd (omega arith)
 
--- the result is a word
+-- a word in which a byte is replaced is still a word
 pub byte_word : (w v k : ℕ) → k < 4 → w < 2 ^ 32 → with_part w (8 * k) 8 v < 2 ^ 32
 byte_word w v zero lt b = omega arith
 byte_word w v (suc zero) lt b = omega arith
@@ -65,7 +65,7 @@ byte_word w v (suc (suc (suc (suc k)))) lt b = absurd (omega arith)
 
 -- ---- an element stored
 
--- an element that is stored is loaded again, as far as its width keeps it
+-- a load of a stored element yields what the element's width keeps of the value
 pub loaded_same : (w : Width) (m : ℕ → ℕ) (a v : ℕ) → loaded (load_of w) (stored (store_of w) m a v) a ≡ kept w v
 loaded_same Byte m a v = ap (λ n. byte_in n (a % 4)) (word_same m (a - a % 4) (with_part (m (a - a % 4)) (8 * (a % 4)) 8 v)) ∙ byte_same (m (a - a % 4)) v (a % 4) (omega arith)
 loaded_same Word m a v = word_same m a v

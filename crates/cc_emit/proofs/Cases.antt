@@ -1,4 +1,4 @@
--- What the items of an item of Linear do.
+-- What the emitted items of an item of Linear do.
 use Rattle.std.proofs.Common.{◌≡◌, ℕ, suc, ◌+◌, ◌-◌, ◌*◌, ◌%◌, ◌^◌, ◌<◌, ◌≤◌, ◌⊎◌, List, [], ◌∷◌, ◌++◌, Option, Some, None, true, false, Bool, refl, sym, ap, ap₂, ◌∙◌, subst, inl, inr, arith}
 use Rattle.std.specs.Prelude.{◌==◌, if◌then◌else◌, not, option_map}
 use Rattle.cc_words.specs.Words.{add, lt_u}
@@ -69,7 +69,7 @@ pub record Reaches (x : Site) (next : List Step) (l : Locations) (h : World) (s 
   pub standing : Standing x held long offset next
   pub within : Within x held l h to
 
--- the steps do one move, which takes the words of `prefix`
+-- the steps make one move, which uses the words of `prefix`
 pub record Stepped (x : Site) (ops : List Step) (l : Locations) (h : World) (s : State) : Type 0 where
   pub prefix : List ℕ
   pub are_words : AreWords prefix
@@ -116,7 +116,7 @@ pub reach_set : (x : Site) {held : Scratch} (next : List Step) (l : Locations) (
 reach_set x next l h s p q b d v i e f g k u lt st w =
     reach_by x next (put (Register d) v l) h s (record s { pc = s.pc + 4; registers = with_register s.registers d v }) q b (step_at x.code s p i e f ∙ k) (ap (λ n. n + 4) e ∙ g) st (within_set x l h s (s.pc + 4) d v u lt w)
 
--- an item that is executed is one move
+-- the execution of an item makes one move
 pub stepped : (x : Site) (ops next : List Step) (l k : Locations) (h g : World) (s : State) → ((ws : List ℕ) → selected_move x.meaning.arity x.steps (at_steps ops l h ws) ≡ Goes (at_steps next k g ws)) → Reaches x next k g s → Stepped x ops l h s
 stepped x ops next l k h g s moves r = record { prefix = []; are_words = tt; next = next; locations = k; world = g; moves = moves; reaches = r }
 
@@ -187,7 +187,7 @@ short_reaches x v a n next rest l h s i false e inside p st all nears f k same =
     let one = branch_step x.code s (x.place + 4 * a) (x.place + 4 * b) i false e target.from.aligned f.0 (add s.pc (distance a b)) k (λ t. there) in
     reach_by x next l h s (record s { pc = x.place + 4 * a + 4 }) v (a + 1) one (omega arith) (subst (Standing x _ v (a + 1)) same st) (within_pc x l h s (x.place + 4 * a + 4) inside)
 
--- a branch in either form; the opposite branch is taken exactly if this one is not
+-- a branch in either form leads where its condition says; the opposite branch is taken exactly if this one is not
 branch_reaches : (x : Site) {held : Scratch} (v a n : ℕ) (next rest : List Step) (l : Locations) (h : World) (s : State) (c : Condition) (t is : Bool) → s.pc ≡ x.place + 4 * a → Within x held l h s → IsPlace (x.place + 4 * a) → Standing x held v (a + branch_size is) rest → StandsWhole x
     → (is ≡ true → Nears a (labels x n)) → Stands x (x.place + 4 * a) (branch_items is c a (labels x n)) → is_taken c.operation (s.registers c.left) (s.registers c.right) ≡ t → (if t then place x.steps n else rest) ≡ next → Reaches x next l h s
 branch_reaches x v a n next rest l h s c t true e inside p st all nears f taken same =
@@ -196,7 +196,7 @@ branch_reaches x v a n next rest l h s c t false e inside p st all nears f taken
     over_reaches x v a n next rest l h s (Branch (opposite c.operation) c.left c.right 8) (not t) e inside p st all f
     (ap (λ b. branches b (add s.pc 8) s) (opposite_taken c.operation (s.registers c.left) (s.registers c.right) ∙ ap not taken)) (if_not t rest (place x.steps n) ∙ same)
 
--- a branch, as it is or turned, on a condition that shows whether a word is not 0
+-- a branch on a condition that shows whether a word is not 0, as it is or turned, leads where the word says
 pub told_reaches : (x : Site) {held : Scratch} (v a n : ℕ) (rest : List Step) (l : Locations) (h : World) (s : State) (c : Condition) (word : ℕ) (nonzero is : Bool) → s.pc ≡ x.place + 4 * a → Within x held l h s → IsPlace (x.place + 4 * a) → Standing x held v (a + branch_size is) rest → StandsWhole x
     → (is ≡ true → Nears a (labels x n)) → Stands x (x.place + 4 * a) (branch_items is (turned nonzero c) a (labels x n)) → Tells c s.registers word → Reaches x (led nonzero word rest (place x.steps n)) l h s
 told_reaches x v a n rest l h s c word nonzero is e inside p st all nears f tells =
@@ -273,7 +273,7 @@ unary_case x w a to b o rest l h s (e, st, inside) =
     stepped x (One (Unary o to b) ∷ rest) rest l (put (Register to) v l) h h s (λ ws. refl)
     (reach_set x rest l h s (x.place + 4 * a) _ (a + 1) to v (unary_instr o to b) e (first_items x w a (One (Unary o to b)) rest st).0 (behind_1 x.place a) same fine.0 (subst (λ n. apply_unary o n < 2 ^ 32) (sym (inside.same b fine.1)) r.1) (standing_tail x w a (One (Unary o to b)) rest st) inside)
 
--- the first instruction sets x5, and the second asks about it
+-- the first instruction sets x5, and the second tests x5
 pub asked : (x : Site) {held : Scratch} (w a to v t : ℕ) (i j : Instr) (rest : List Step) (l : Locations) (h : World) (s : State) → s.pc ≡ x.place + 4 * a → Standing x (without to (without_address held)) w (a + 2) rest → Within x held l h s → Stands x (x.place + 4 * a) (Plain i ∷ Plain j ∷ []) → execute_above x.code.floor i s ≡ puts 5 t s → t < 2 ^ 32
     → ((u : State) → u.registers 5 ≡ t → u.registers 0 ≡ 0 → execute_above x.code.floor j u ≡ puts to v u) → IsTarget x.frame to → v < 2 ^ 32 → Reaches x rest (put (Register to) v l) h s
 asked x w a to v t i j rest l h s e st inside items value b5 question u lt =
@@ -346,7 +346,7 @@ copy_case x w a (Spill i b) rest l h s (e, st, inside) =
 
 -- ---- objects
 
--- the states after the instructions that make an element's address
+-- the states after the instructions that compute an element's address
 abbrev shifted : State → ℕ → State
 shifted s i = record s { pc = s.pc + 4; registers = with_register s.registers 5 ((s.registers i * 4) % 2 ^ 32) }
 
@@ -354,7 +354,7 @@ abbrev pub uppered : Remembered → State → ℕ → State
 uppered Nothing s b = record s { pc = s.pc + 4; registers = with_register s.registers 6 (high b * 2 ^ 12) }
 uppered known s b = s
 
--- the state after the sum of a base in one register and a distance in another goes into x5
+-- the state after the sum of a base in one register and a distance in another is written to x5
 abbrev pub added : State → (base distance : ℕ) → State
 added s q r = record s { pc = s.pc + 4; registers = with_register s.registers 5 (add (s.registers r) (s.registers q)) }
 
@@ -364,7 +364,7 @@ at_element ElementByPointer w s i b = s
 at_element known Byte s i b = added (uppered known s b) (base_register known) i
 at_element known Word s i b = added (uppered known (shifted s i) b) (base_register known) 5
 
--- the number of the instructions that make an element's address
+-- the number of the instructions that compute an element's address
 abbrev pub upper_before : Remembered → ℕ
 upper_before Nothing = 1
 upper_before known = 0
@@ -375,7 +375,7 @@ before ElementByPointer w = 0
 before known Byte = upper_before known + 1
 before known Word = upper_before known + 2
 
--- ---- what is known after those instructions
+-- ---- what is known after the instructions that compute an element's address
 
 uppered_same : (known : Remembered) (s : State) (b r : ℕ) → (r ≡ 6 → ⊥) → (uppered known s b).registers r ≡ s.registers r
 uppered_same Nothing s b r n = set_other s.registers 6 (high b * 2 ^ 12) r n
@@ -384,7 +384,7 @@ uppered_same Element s b r n = refl
 uppered_same ByPointer s b r n = refl
 uppered_same ElementByPointer s b r n = refl
 
--- the register from which an address is reached holds the address's base then
+-- once x6 is set as needed, the register from which an address is reached holds the address's base
 pub base_held : (known : Remembered) (s : State) (b : ℕ) → IsKnownAt known b s.registers → (uppered known s b).registers (base_register known) ≡ sum_base known b
 base_held Nothing s b known = set_same s.registers 6 (high b * 2 ^ 12) (omega arith)
 base_held Upper s b known = known
@@ -402,7 +402,7 @@ within_upper x Element l h s b known w = absurd known
 within_upper x ByPointer l h s b known w = within_as x _ l h s (record { upper = w.holds.upper; address = w.holds.address }) w
 within_upper x ElementByPointer l h s b known w = absurd known
 
--- then x5 becomes the sum of a base and a distance in bytes
+-- once x5 has become the sum of a base and a distance in bytes, that sum is known
 within_added : (x : Site) {held : Scratch} (l : Locations) (h : World) (s : State) (width : Width) (q r i o : ℕ) → add (s.registers r) (s.registers q) ≡ (bytes width * s.registers i + o) % 2 ^ 32 → IsAllocatable i → Within x held l h s
     → Within x (record { upper = held.upper; address = Some (address_of width i o) }) l h (added s q r)
 within_added x {held} l h s width q r i o sum ui w =
@@ -426,7 +426,7 @@ within_shifted x l h s i w = within_5 x l h s (s.pc + 4) ((s.registers i * 4) % 
 shifted_same : (s : State) (i r : ℕ) → (r ≡ 5 → ⊥) → (shifted s i).registers r ≡ s.registers r
 shifted_same s i r n = set_other s.registers 5 _ r n
 
--- the address is made from a number of bytes, or from a number of words
+-- the address is computed from a number of bytes, or from a number of words
 within_byte : (x : Site) {held : Scratch} (known : Remembered) (l : Locations) (h : World) (s : State) (i b : ℕ) → IsKnownAt known b s.registers → IsAllocatable i → Within x held l h s
     → Within x (behind_element known held Byte b i) l h (added (uppered known s b) (base_register known) i)
 within_byte x known l h s i b is ui w =
@@ -444,7 +444,7 @@ within_word x known l h s i b is ui w =
     within_added x l h u Word (base_register known) 5 i (sum_base known b) (sum_words (s.registers i) (u.registers i) (u.registers 5) (u.registers (base_register known)) (sum_base known b) five same (base_held known t b is)) ui
     (within_upper x known l h t b is (within_shifted x l h s i w))
 
--- what is known after all instructions that make the address
+-- what is known after all instructions that compute the address
 pub within_element : (x : Site) {held : Scratch} (known : Remembered) (l : Locations) (h : World) (width : Width) (s : State) (i b : ℕ) → IsKnown known width b i s.registers → IsAllocatable i → Within x held l h s
     → Within x (behind_element known held width b i) l h (at_element known width s i b)
 within_element x Nothing l h Byte s i b known ui w = within_byte x Nothing l h s i b tt ui w
@@ -468,7 +468,7 @@ uppered_reaches x next k g Element s p b items e f go = (let none : p ≡ p + 4 
 uppered_reaches x next k g ByPointer s p b items e f go = (let none : p ≡ p + 4 * 0 = omega arith in go (subst (λ n. Stands x n items) none f) (e ∙ none))
 uppered_reaches x next k g ElementByPointer s p b items e f go = (let none : p ≡ p + 4 * 0 = omega arith in go (subst (λ n. Stands x n items) none f) (e ∙ none))
 
--- if the machine is at this item, n items after p, it arrives at the next step
+-- if the machine is at `item`, n items after p, it arrives at the next step
 abbrev Arrives : (x : Site) (next : List Step) (k : Locations) (g : World) (p n : ℕ) (item : PieceItem) (t : State) → Type 0
 Arrives x next k g p n item t = x.code.at (p + 4 * n) ≡ Some (filled x.places x.place (p + 4 * n) item) → t.pc ≡ p + 4 * n → Reaches x next k g t
 
@@ -526,7 +526,7 @@ same_memory ByPointer Byte s i b = refl
 same_memory ByPointer Word s i b = refl
 same_memory ElementByPointer w s i b = refl
 
--- the place of an element is the sum of what x5 holds of its address and of the object's part
+-- the place of an element is the sum of what x5 holds of its address and the object's part of the address
 abbrev pub Leads : Width → (index at b : ℕ) → (word : ℕ) → Type 0
 Leads width i at b word = (o part : ℕ) (f : ℕ → ℕ) → f i ≡ word → (o + part) % 2 ^ 32 ≡ b → IsAddress width i o f → (f 5 + part) % 2 ^ 32 ≡ at
 

@@ -78,7 +78,8 @@ behind_fit functions head items p q =
 
 -- ---- from the end of the head to the return
 
--- the machine does for a call from state s what it does for one from v, if what comes back from v also comes back from s
+-- if each return from a call in state v is also one from a call in state s, the machine does for the call in s what it
+-- does for the call in v
 comes_from : {b : List Size} (y : ObjectLayout b) (code : Code) (rate : ℕ) (s v u : State) (stop : Stop Answer) (o : List ℕ) (done : ℕ) → ((r : Answer) (t : State) → ComesBack y v r t → ComesBack y s r t) → DoesBy y code rate v u stop o done → DoesBy y code rate s u stop o done
 comes_from y code rate s v u Going o done f d = d
 comes_from y code rate s v u (Ended r) o done f d = (d.0, d.1, d.2, f r d.1 d.3, d.4)

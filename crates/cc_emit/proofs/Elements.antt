@@ -49,7 +49,7 @@ placed_by x w g n i same lt =
 pub placed : (x : Site) (h : World) (s : State) (w : Width) (g i v : ℕ) → Shares x.layout s h → IsElement h w g i v → IsPlaced x w g i
 placed x h s w g i v sh is = placed_by x w g (length (object_words h g)) i (ap size_words (size_told x h s w g i v sh is)) is.below
 
--- what the machine loads from the element's place
+-- the machine loads the element's value from the element's place
 pub holds : (x : Site) (h : World) (s : State) (w : Width) (g i v : ℕ) → Shares x.layout s h → IsElement h w g i v → loaded (load_of w) s.memory (element_place w (x.layout.base g) i) ≡ v
 holds x h s w g i v sh is =
     let size = size_told x h s w g i v sh is in
@@ -88,7 +88,7 @@ set_sizes (o ∷ os) (suc g) i v = ap (λ (ns : List Size). size_of o ∷ ns) (s
 pub stored_sizes : (h : World) (g i v : ℕ) → map size_of (with_element h g i v).globals ≡ map size_of h.globals
 stored_sizes h g i v = set_sizes h.globals g i v
 
--- what an element of the same object is after a store into the object
+-- each element of the same object has the right value after a store into the object
 stored_here : (x : Site) (h : World) (s : State) (w : Width) (g i v old j : ℕ) → Shares x.layout s h → IsElement h w g i old → j < length (object_words h g)
     → loaded (load_of w) (stored (store_of w) s.memory (element_place w (x.layout.base g) i) v) (element_place w (x.layout.base g) j) ≡ get_or (set (object_words h g) i (kept w v)) j 0
 stored_here x h s w g i v old j sh is lj =

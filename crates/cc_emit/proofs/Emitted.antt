@@ -41,7 +41,7 @@ DoesBy y code rate from s Wrong o done = Unit {0}
 abbrev pub Does : {b : List Size} (y : ObjectLayout b) (code : Code) (rate : ℕ) (from s : State) → Outcome Answer → ℕ → Type 0
 Does y code rate from s z done = DoesBy y code rate from s z.stop z.output done
 
--- if a path leads to a state from which the machine does this, it does so from the path's start, and more is paid for
+-- if a path leads from s to t and the machine does this from t, it also does this from s, and more moves are paid for
 pub does_then : {b : List Size} (y : ObjectLayout b) (code : Code) (rate : ℕ) (from s t : State) (stop : Stop Answer) (o : List ℕ) (v m more : ℕ) → Path code m s t → more ≤ rate * m → DoesBy y code rate from t stop o v → DoesBy y code rate from s stop o (more + v)
 does_then y code rate from s t Going o v m more p b (k, u, q, e, c) = (m + k, u, path_then code m k s t u p q, e, (let f = mul-add rate m k in omega arith))
 does_then y code rate from s t (Ended r) o v m more p b (k, u, q, e, c) = (m + k, u, path_then code m k s t u p q, e, (let f = mul-add rate m k in omega arith))
@@ -134,7 +134,7 @@ module _ (x : Site) (c : ℕ) (one : 1 ≤ c) (all_places : (g : ℕ) → g < x.
   same_configuration ops l a t words =
       ap₂ (λ (k : Locations) (xs : List ℕ). at_steps ops (put (Register 10) a.value k) a.world xs) (same_call l t words) (drop_listed 32 0 t.registers words)
 
-  -- the machine follows a call that gives its answer
+  -- the machine follows a call that returns an answer
   answers : (i steps left n : ℕ) (s : State) (ops : List Step) (l : Locations) (g : ℕ) (a : Answer) (t : State) (words : List ℕ) → machine_step x.code s ≡ Continues (called s (x.places g)) → Path x.code n (called s (x.places g)) t → steps ≤ left + c + c * n
       → Done t (lrun i left (at_steps ops (put (Register 10) a.value (regained l t)) a.world words)) (lwork i left (at_steps ops (put (Register 10) a.value (regained l t)) a.world words))
       → Comes i ops l s (listed 32 0 t.registers ++ words) steps (Gives a left)
@@ -147,7 +147,7 @@ module _ (x : Site) (c : ℕ) (one : 1 ≤ c) (all_places : (g : ℕ) → g < x.
       let r = lrun i left q in
       subst (Done s r) e (does_then x.layout x.code rate x.from s t r.stop r.output v (suc n) (suc (steps - left)) (called s (x.places g), to, p) (call_paid c n (steps - left) one (omega arith)) y)
 
-  -- the machine follows a call that gives no answer within these steps
+  -- the machine follows a call that returns no answer within these steps
   unfinished : (s : State) (ops : List Step) (l : Locations) (g i steps : ℕ) (words o : List ℕ) → machine_step x.code s ≡ Continues (called s (x.places g)) → Meets x.layout x.code c c steps (called s (x.places g)) (Unfinished o) → Comes i ops l s words steps (Unfinished o)
   unfinished s ops l g i steps words o to (n, t, p, q, b) = (suc n, t, (called s (x.places g), to, p), q, call_paid c n steps one b)
 
@@ -167,7 +167,7 @@ module _ (x : Site) (c : ℕ) (one : 1 ≤ c) (all_places : (g : ℕ) → g < x.
   call_follows k j s ops l h g words o to lt enter f zero steps le les = here s h.output o
   call_follows k j s ops l h g words o to lt enter f (suc i) steps le les = at_call s ops l h g i steps words to lt enter (f i steps (omega arith) les) (effect steps g l h) refl
 
-  -- if the call gives no answer within j steps, it gives none within fewer
+  -- if the call returns no answer within j steps, it returns none within fewer
   none_fewer : (j steps g left : ℕ) (l : Locations) (h : World) (a : Answer) → steps ≤ j → effect steps g l h ≡ Gives a left → effect j g l h ≡ Gives a (left + (j - steps))
   none_fewer j steps g left l h a le eq =
       let e : steps + (j - steps) ≡ j = omega arith in
@@ -204,7 +204,7 @@ module _ (x : Site) (c : ℕ) (one : 1 ≤ c) (all_places : (g : ℕ) → g < x.
   return_follows k j s ops l h o p zero steps le les = here s h.output o
   return_follows k j s ops l h o p (suc i) steps le les = (p.0, p.1, p.2, p.3, omega arith)
 
-  -- a label takes no move
+  -- a label needs no move
   label_follows : (k j n : ℕ) (s : State) (ops : List Step) (l : Locations) (h : World) (words : List ℕ) → FollowsWith k j (at_steps ops l h words) s → FollowsWith k j (at_steps (One (Label n) ∷ ops) l h words) s
   label_follows k j n s ops l h words f zero steps le les = f zero steps le les
   label_follows k j n s ops l h words f (suc i) steps le les = f (suc i) steps le les

@@ -1,4 +1,4 @@
--- What is handed out is the piece of the pair that was taken.
+-- The piece that `emit` returns is that of the pair that it was given.
 use Rattle.std.proofs.Common.{◌≡◌, ℕ, false, List, refl, sym, ap, ◌∙◌, subst}
 use Rattle.std.specs.List.{AllByRecursion}
 use Rattle.cc_ast.specs.Tree.{External}

@@ -43,7 +43,7 @@ does_same arity c d same (_ ∷ ops) l h ws = refl
 
 -- ---- the steps of an early function: light ones, a test, and the rest
 
--- `part` does not change if a light step or a test is put before the steps
+-- `part` does not change if a light step or a test is put in front of the steps
 module _ {A : Type 0} (part : List Step → A) (light : (s : Step) (steps : List Step) → is_light s ≡ true → part (s ∷ steps) ≡ part steps) (test : (s : Step) (f : Fork) (steps : List Step) → fork_of s ≡ Some f → part (s ∷ steps) ≡ part steps) (code : List Step) where
   rest_first : (s : Step) (steps : List Step) (e : Early) → ((d : Early) → early_from code steps ≡ Some d → part steps ≡ part d.rest) → early_from code (s ∷ steps) ≡ Some e → part (s ∷ steps) ≡ part e.rest
   rest_first s steps e again is = by (is_light s) refl is
@@ -106,7 +106,7 @@ turned_quiet _ f e = absurd (cc)
 abbrev AreQuiet : List Step → Type 0
 AreQuiet steps = AllByRecursion Quiet steps
 
--- two lists of steps that write the same registers
+-- if two lists of steps write the same kept registers, they write the same registers of `rs`
 same_written : (steps more : List Step) (rs : List ℕ) → AreKept rs → ((r : ℕ) → IsKept r → is_written steps r ≡ is_written more r) → written steps rs ≡ written more rs
 same_written steps more [] k e = refl
 same_written steps more (r ∷ rs) k e = ap₂ (λ (b : Bool) (xs : List ℕ). if b then r ∷ xs else xs) (e r k.0) (same_written steps more rs k.1 e)
@@ -130,7 +130,7 @@ quiet_writes (s ∷ steps) r k q = ap₂ (λ a b. a || b) (q.0.writes r k) (quie
 
 -- ---- what comes before the frame
 
--- if all steps of the code have one property, those of a head have another
+-- if all steps of the code satisfy `Q`, those of a head satisfy `P`
 module _ (P Q : Step → Type 0) (code : List Step) (all : AllByRecursion Q code) (light : (s : Step) → is_light s ≡ true → Q s → P s) (turned : (s : Step) (f : Fork) → fork_of s ≡ Some f → Q s → P f.turned) (ends : P (One Return)) (label : (n : ℕ) → P (One (Label n))) where
   last_has : (ss last : List Step) (n : ℕ) → AllByRecursion Q ss → last_of ss ≡ Some last → AllByRecursion P (last ++ One Return ∷ One (Label n) ∷ [])
   last_has [] last n q e = none_says last e

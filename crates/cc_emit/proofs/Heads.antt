@@ -1,6 +1,6 @@
--- What comes before a function's frame. From the function's entry, it returns as the function does, or the machine arrives at its end when
--- the run arrives at the rest of the function's steps. It is code of its own, of a function that has no frame; the run is the run of the
--- whole function.
+-- What comes before a function's frame. From the function's entry, this part returns as the function does, or the machine arrives at the
+-- part's end when the run arrives at the rest of the function's steps. The part is code of its own, that of a function without a frame;
+-- the run is that of the whole function.
 use Rattle.std.proofs.Common.{◌≡◌, ℕ, zero, suc, ◌+◌, ◌*◌, ◌%◌, ◌≤◌, ◌⊎◌, List, [], ◌∷◌, ◌++◌, Option, Some, None, true, false, Bool, refl, sym, ap, ◌∙◌, subst, inl, inr, arith}
 use Rattle.std.specs.Prelude.{if◌then◌else◌, ◌==◌, ◌&&◌, not, option_map}
 use Rattle.cc_words.specs.Operators.{apply_unary, apply_binary}
@@ -45,7 +45,7 @@ gives (One (Binary operator to left right)) l = apply_binary operator (l (Regist
 gives (Immediate operator to from word) l = apply_immediate operator (l (Register from)) word
 gives step l = None
 
--- the word that a test examines, and whether it leads on if that word is not 0
+-- the word that a test examines, and whether the test jumps if that word is not 0
 abbrev asks : Step → Locations → Option ℕ
 asks (One (IfNonzero from to)) l = Some (l (Register from))
 asks (One (IfZero from to)) l = Some (l (Register from))
@@ -118,7 +118,7 @@ put_merged to v l slots = λ i k. at k i
 
 -- ---- the machine
 
--- if a step makes these moves, the machine arrives at the steps after it
+-- if a step makes these moves, the machine arrives at the steps that follow
 stepped_to : (x : Site) (ops next : List Step) (l k : Locations) (h : World) (u : State) → ((ws : List ℕ) → selected_move x.meaning.arity x.steps (at_steps ops l h ws) ≡ Goes (at_steps next k h ws)) → Stepped x ops l h u → Reaches x next k h u
 stepped_to x ops next l k h u f z =
     let e : Goes (at_steps next k h (z.prefix ++ [])) ≡ Goes (at_steps z.next z.locations z.world []) = sym (f (z.prefix ++ [])) ∙ z.moves [] in
@@ -162,7 +162,7 @@ both true true e = (refl, refl)
 both true false e = absurd (let n : false ≡ true = e in cc)
 both false b e = absurd (let n : false ≡ true = e in cc)
 
--- a test goes one of its two ways, and the reversed test goes the other way
+-- the reversed test goes one way exactly if the test goes the other way
 ways : (H G : List Step → Type 0) (nonzero : Bool) (v : ℕ) (on there on' there' : List Step) → (H on' → G there) → (H there' → G on) → H (led (not nonzero) v on' there') → G (led nonzero v on there)
 ways H G true v on there on' there' f g = by (v == 0)
   where
@@ -175,7 +175,7 @@ ways H G false v on there on' there' f g = by (v == 0)
     by true = f
     by false = g
 
--- no step of a head is a label, except the last
+-- no step of a head except the last is a label
 pub lit_there : (s : Step) (to : ℕ) → written_by s ≡ Some to → IsThere s
 lit_there (One (Label n)) to e = absurd (cc)
 lit_there _ to e = tt
@@ -279,14 +279,14 @@ module _ (x : Site) (c : ℕ) (one : 1 ≤ c) (all : StandsWhole x) (sound : IsS
   returns ss l h words s o p zero n le les = here s h.output o
   returns ss l h words s o p (suc i) n le les = (p.0, p.1, p.2, p.3, omega arith)
 
-  -- a label takes no move
+  -- a label needs no move
   labelled : (n : ℕ) (ss : List Step) (l : Locations) (h : World) (words : List ℕ) (s : State) → Follows x c code k j (at_steps ss l h words) s → Follows x c code k j (at_steps (One (Label n) ∷ ss) l h words) s
   labelled n ss l h words s f zero m le les = f zero m le les
   labelled n ss l h words s f (suc i) m le les = f (suc i) m le les
 
   -- ---- a light step
 
-  -- a light step goes wrong, or both the machine and the run do it, whatever the slots hold
+  -- a light step goes wrong, or both the machine and the run execute it, whatever the slots hold
   pub record Lit (s : Step) (ops ss : List Step) (l : Locations) (h : World) (u : State) : Type 0 where
     pub locations : Locations
     pub reaches : Reaches x ops locations h u

@@ -1,4 +1,5 @@
--- What x3 and the scratch registers hold on the machine: each remembered word is there, and a change of another register leaves it.
+-- What x3 and the scratch registers hold on the machine: each remembered word is there, and a change of another register does not
+-- change it.
 use Rattle.std.proofs.Common.{◌≡◌, ℕ, ◌+◌, ◌*◌, ◌%◌, ◌^◌, ◌-◌, ◌<◌, ◌≤◌, Bool, true, false, Option, Some, None, refl, sym, ap, ◌∙◌, inl, inr, arith}
 use Rattle.std.specs.Prelude.{if◌then◌else◌, ◌==◌, ◌&&◌, nat_le, nat_lt}
 use Rattle.std.proofs.lemmas.Bool.Decides.{nat_tests}
@@ -63,7 +64,7 @@ holds_set held f d v u h = (let lo = u.0 in record {
   address = address_without held.address d f (with_register f d v) (set_other f d v 5 (λ e. omega arith)) (λ r n. set_other f d v r n) h.address;
 })
 
--- x5 is set, or x6
+-- after x5 or x6 is set, the scratch registers still hold what is known about the other register
 pub holds_address_set : (held : Scratch) (f : ℕ → ℕ) (v : ℕ) → Holds held f → Holds (without_address held) (with_register f 5 v)
 holds_address_set held f v h = record { upper = upper_stays held.upper f (with_register f 5 v) (set_other f 5 v 6 (λ e. omega arith)) h.upper; address = tt }
 
@@ -107,7 +108,7 @@ abbrev pub IsPointer : (sets_pointer : Bool) → (before now : ℕ) → Type 0
 IsPointer true before now = now ≡ global_pointer
 IsPointer false before now = IsKeptOrPointer before now
 
--- the same holds after a call
+-- `IsPointer` still holds after a call
 pub pointer_behind : (sets_pointer : Bool) (before now after : ℕ) → IsPointer sets_pointer before now → IsKeptOrPointer now after → IsPointer sets_pointer before after
 pointer_behind true before now after b (inl e) = e ∙ b
 pointer_behind true before now after b (inr e) = e
@@ -124,7 +125,7 @@ pub pointer_is : (sets_pointer : Bool) (before now : ℕ) → sets_pointer ≡ t
 pointer_is true before now e b = b
 pointer_is false before now e b = absurd (let q : false ≡ true = e in cc)
 
--- an address within reach
+-- an address within the reach of x3: in the first 4 KiB of the globals
 abbrev pub IsInReach : (address : ℕ) → Type 0
 IsInReach a = (globals_from ≤ a) × (a < globals_from + 4096)
 

@@ -8,7 +8,7 @@ use Rattle.std.proofs.lemmas.List.{at_drop_more, drop_more, drop_all, get_or-set
 use Rattle.cc_select.specs.declared.step.Step.{Step}
 use Rattle.cc_emit.specs.Frames.{writes, is_written, written, saved_by, kept_registers}
 
--- what is saved so far, and which of the remaining registers will be
+-- the registers saved so far, followed by those of the rest that the steps write, are all that are saved
 abbrev pub Chosen : List Step → (index : ℕ) → List ℕ → Type 0
 Chosen code i saved = (saved ++ written code (drop i kept_registers) ≡ saved_by code) × (length saved ≤ i + 1) × AllByRecursion (λ r. r < 32) saved
 
@@ -41,7 +41,7 @@ get_below (r ∷ rs) (suc i) all = get_below rs i all.1
 pub kept_below : (i : ℕ) → get_or kept_registers i 0 < 32
 kept_below i = get_below kept_registers i (omega arith, (omega arith, (omega arith, (omega arith, (omega arith, (omega arith, (omega arith, (omega arith, (omega arith, (omega arith, (omega arith, (omega arith, tt))))))))))))
 
--- ---- the registers that steps write are those that the steps so far write, and those that the rest writes
+-- ---- the registers that steps write are those that the steps so far write, and those that the rest write
 
 pub record Found (code : List Step) (i : ℕ) (found : List Bool) : Type 0 where
   pub long : length found ≡ 32

@@ -48,7 +48,7 @@ entry_more true old at pos h = by (old == 0) (eqb_denies old 0) h
     by false p (inl e) = absurd (p refl e)
     by false p (inr lt) = inr (omega arith)
 
--- a new note leaves what the table says about steps further on
+-- a new note does not change what the table says about later steps
 entry_same : (led : Bool) (old at k : ℕ) → at ≤ k → nat_lt k (noted led old at) ≡ nat_lt k old
 entry_same false old at k le = refl
 entry_same true old at k le = by (old == 0) (eqb_says old 0)
@@ -57,7 +57,7 @@ entry_same true old at k le = by (old == 0) (eqb_says old 0)
     by true p = (let e = p refl in less_not k at le ∙ sym (less_not k old (omega arith)))
     by false p = refl
 
--- a new note says the right thing about this step
+-- a new note is right about this step
 entry_here : (led : Bool) (old at : ℕ) → 0 < at → (old ≡ 0) ⊎ (at < old) → (led || nat_lt at old) ≡ nat_lt (at - 1) (noted led old at)
 entry_here false old at pos (inl e) = less_not at old (omega arith) ∙ sym (less_not (at - 1) old (omega arith))
 entry_here false old at pos (inr lt) = less_yes at old lt ∙ sym (less_yes (at - 1) old (omega arith))

@@ -86,7 +86,7 @@ whole_does meaning layout f rate slots ls code keeps few fits le =
     let framed = is_frame sets_pointer slots code le in
     record { rate = rate + rate; meets = framed_meets meaning layout f rate frame code keeps framed fine; small = (let z = framed.small in omega arith); fit = framed_fit meaning layout.base frame code framed fine }
 
--- so do the steps of a function with some of them before the frame
+-- the steps of a function, some of them before the frame, do what the function does
 early_does : (meaning : Meaning) (layout : ObjectLayout meaning.objects) (f rate slots : ℕ) (ls : List ℕ) (code : List Step) (e : Early) → early_from code code ≡ Some e → TracksForAll meaning f rate (selected_move meaning.arity code) selected_output (selected_start slots code) → ((g : ℕ) → meaning.arity g ≤ 8)
     → AllByRecursion (IsStep slots meaning.functions ls) code → slots ≤ most_slots → IsPiece meaning layout f (frame_size (frame_of false slots code)) (early_items layout.base slots (Some e) code)
 early_does meaning layout f rate slots ls code e is keeps few fits le =

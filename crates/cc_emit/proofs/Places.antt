@@ -243,7 +243,7 @@ seen_ahead f all items w a l (inr h) = inr (subst (λ n. IsAhead w a n (short_pl
 pub stays_near : (f : Frame) (all items : List Addressed) (w a l : ℕ) → AreSeen f all items w a → is_near f all w l ≡ true → IsClose a (short_place f (is_near f all) 0 (prologue_size f) all l)
 stays_near f all items w a l seen e = near_by w a (long_place f 0 all l) _ (close_says w (long_place f 0 all l) e) (seen_ahead f all items w a l (seen l))
 
--- the offset of such a branch: its value, and that the instruction has room for it
+-- `x` is the offset from one place to another, as a word
 abbrev pub DistanceIs : (from to x : ℕ) → Type 0
 DistanceIs from to x = ((from ≤ to) × (x ≡ 4 * (to - from))) ⊎ ((to < from) × (x ≡ 2 ^ 32 - 4 * (from - to)))
 

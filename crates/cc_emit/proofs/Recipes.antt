@@ -25,7 +25,7 @@ use Rattle.cc_emit.specs.declared.recipe.Recipe.TheVariants.{Direct, NonzeroOf, 
 use Rattle.cc_emit.specs.declared.recipe.WordRecipe.TheVariants.{NonzeroOfImmediate, OnZero, ShiftBy, WithImmediate, ZeroOfImmediate}
 use Rattle.cc_emit.proofs.Basics.{LowIs, eqb_denies, eqb_says, low_is}
 
--- a recipe for two words a and b gives the word v
+-- a recipe for two words a and b yields the word v
 abbrev pub IsRight : Recipe → (a b v : ℕ) → Type 0
 IsRight (Direct i) a b v = computed i a b ≡ v
 IsRight (ZeroOf i) a b v = (computed i a b < 2 ^ 32) × (lt_u (computed i a b) 1 ≡ v)
@@ -111,7 +111,7 @@ unary_right IsZero w h = (sym (is_zero-lt_u w), IsWord-is_zero w)
 
 -- ---- a register and a word
 
--- a recipe for a register's word a gives the word v
+-- a recipe for a register's word a yields the word v
 abbrev pub IsRightWord : WordRecipe → (a v : ℕ) → Type 0
 IsRightWord (WithImmediate i n) a v = computed (immediate_operation i) a n ≡ v
 IsRightWord (ShiftBy i n) a v = computed (shift_operation i) a n ≡ v
@@ -185,7 +185,7 @@ ne_by a w false p q e z = (IsWord-add a _, ap (lt_u 0) (sym (minus a w p q e)) �
 
 -- ---- what the operators compute
 
--- an operator on a register's word and a word has a value, and its instructions give it
+-- an operator on a register's word and a word has a value, and its instructions compute that value
 pub record Gives (o : WordOperator) (a w : ℕ) : Type 0 where
   pub value : ℕ
   pub applied : apply_immediate o a w ≡ Some value

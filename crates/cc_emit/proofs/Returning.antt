@@ -31,7 +31,7 @@ use Rattle.cc_emit.proofs.Standing.{machine_step, path_then, size_at, size_found
 use Rattle.cc_emit.proofs.Saving.{with_saved, saved_below, saved_above, saved_words, saved_at, saving_path, restored, restored_right, restored_member, restored_other, restored_words, restoring_path, stack_path}
 use Rattle.cc_emit.proofs.Within.{SavedAt, saved_moved, Within, above_floor}
 
--- a jump that does not keep the return address
+-- a jump that does not keep the return address changes only the program counter
 jump_to : (s : State) (to b : ℕ) → to ≡ b → b % 4 ≡ 0 → jumps 0 to s ≡ Continues (record s { pc = b })
 jump_to s to b e z =
     ap (λ n. jumps 0 n s) e ∙ ap (λ t. if t then Continues (record s { pc = b; registers = with_register s.registers 0 (s.pc + 4) }) else Traps) (eqb_yes (b % 4) 0 z)
@@ -57,7 +57,7 @@ not_saved r (inr (inl e)) = ((λ q. omega arith), (λ k. elim k [ inl b ↦ omeg
 not_saved r (inr (inr (inl e))) = ((λ q. omega arith), (λ k. elim k [ inl b ↦ omega arith | inr b ↦ omega arith ]))
 not_saved r (inr (inr (inr e))) = ((λ q. omega arith), (λ k. elim k [ inl b ↦ omega arith | inr b ↦ omega arith ]))
 
--- the return: the saved registers are read back, and the frame is given up
+-- the return: the saved registers are restored, and the frame is removed
 pub return_path : (x : Site) {held : Scratch} (w a : ℕ) (rest : List Step) (l : Locations) (h : World) (s : State) → IsSound x.from → x.from.registers 1 % 4 ≡ 0 → s.pc ≡ x.place + 4 * a → Standing x held w a (One Return ∷ rest) → Within x held l h s
     → (n : ℕ) × (t : State) × Path x.code n s t × ComesBack x.layout x.from (record { value = l (Register 10); world = h }) t
 return_path x w a rest l h s sound back e st inside =
@@ -281,7 +281,7 @@ saved_other : (rs : List ℕ) (a : ℕ) (f g m : ℕ → ℕ) → AreSavable rs 
 saved_other [] a f g m sv same p = tt
 saved_other (r ∷ rs) a f g m sv same p = (p.0 ∙ same r (savable_not_2 r sv.0) (savable_not_3 r sv.0), saved_other rs (a + 4) f g m sv.1 same p.1)
 
--- the word that a register has at the entry: an argument, or what it held if it has none
+-- at the entry a register has its argument, or what it held if there is no argument for it
 argument_at : (ws : List ℕ) (r i other : ℕ) (s : State) → Passes ws r s → s.registers (r + i) ≡ other → get_or ws i other ≡ s.registers (r + i)
 argument_at [] r i other s p e = sym e
 argument_at (w ∷ ws) r zero other s p e = sym p.0 ∙ ap s.registers (let z : r ≡ r + 0 = omega arith in z)

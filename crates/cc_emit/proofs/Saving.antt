@@ -30,7 +30,7 @@ store_step code s o a b r i at e f to ok =
     step_at code s a (Store o b r i) e f ∙ ap (λ n. if is_accessible_above code.floor (store_bytes o) n then Continues (record s { pc = s.pc + 4; memory = stored o s.memory n (s.registers r) }) else Traps) to
     ∙ ap (λ t. if t then Continues (record s { pc = s.pc + 4; memory = stored o s.memory at (s.registers r) }) else Traps) ok
 
--- the memory after saving
+-- the memory after the registers of a list are saved
 abbrev pub with_saved : List ℕ → (a : ℕ) → (registers memory : ℕ → ℕ) → ℕ → ℕ
 with_saved [] a f m = m
 with_saved (r ∷ rs) a f m = with_saved rs (a + 4) f (with_word m a (f r))
@@ -64,7 +64,7 @@ saving_path code places place (r ∷ rs) o s p z from to =
     let more = saving_path code places place rs (o + 4) u p.1 (omega arith) (omega arith) (omega arith) in
     (u, one, subst (λ n. Path code (length rs) u (record s { pc = n; memory = with_saved rs (at + 4) s.registers u.memory })) n1 (subst (λ n. Path code (length rs) u (record u { pc = u.pc + 4 * length rs; memory = with_saved rs n u.registers u.memory })) a1 more))
 
--- the registers after restoring
+-- the registers after those of a list are restored
 abbrev pub restored : List ℕ → (old registers : ℕ → ℕ) → ℕ → ℕ
 restored [] f g = g
 restored (r ∷ rs) f g = restored rs f (with_register g r (f r))
@@ -74,13 +74,13 @@ one_le_savable x (inl e) = omega arith
 one_le_savable x (inr (inl k)) = omega arith
 one_le_savable x (inr (inr k)) = omega arith
 
--- a register that already has the right word keeps it
+-- a register that already has its old word keeps that word
 pub restored_right : (rs : List ℕ) (f g : ℕ → ℕ) (r : ℕ) → AreSavable rs → g r ≡ f r → restored rs f g r ≡ f r
 restored_right [] f g r sv e = e
 restored_right (x ∷ rs) f g r sv e =
     restored_right rs f (with_register g x (f x)) r sv.1 (elim (eqb_tells r x) [ inl t ↦ ap (with_register g x (f x)) t.1 ∙ set_same g x (f x) (one_le_savable x sv.0) ∙ ap f (sym t.1) | inr t ↦ set_other g x (f x) r t.1 ∙ e ])
 
--- a register of the list gets the right word
+-- a register of the list gets its old word back
 pub restored_member : (rs : List ℕ) (f g : ℕ → ℕ) (r : ℕ) → AreSavable rs → Member r rs → restored rs f g r ≡ f r
 restored_member [] f g r sv m = absurd m
 restored_member (x ∷ rs) f g r sv (inl e) = restored_right rs f (with_register g x (f x)) r sv.1 (ap (with_register g x (f x)) e ∙ set_same g x (f x) (one_le_savable x sv.0) ∙ ap f (sym e))

@@ -81,7 +81,7 @@ size_found objects h e g = ap (λ (o : List Size). size_in o g) (sym e) ∙ foun
     found_at (o ∷ os) zero = refl
     found_at (o ∷ os) (suc g) = found_at os g
 
--- steps with what is known about their addresses, if the scratch registers hold `held` before them
+-- steps, each with what is known about the address that it accesses, if the scratch registers hold `held` before them
 abbrev pub addressed_at : Site → Scratch → List Step → List Addressed
 addressed_at x held ops = addressed x.layout.base x.frame.sets_pointer held ops
 
@@ -134,7 +134,7 @@ placed_append code places place a (x ∷ xs) ys p =
 pub between : (a b c : ℕ) → IsPlace a → IsPlace c → a ≤ b → b ≤ c → b % 4 ≡ 0 → IsPlace b
 between a b c p q le lt z = let from = p.from in let to = q.to in record { aligned = z; from = omega arith; to = omega arith }
 
--- the items of the first step
+-- the items of the first step are in place
 pub first_items : (x : Site) {held : Scratch} (w a : ℕ) (op : Step) (ops : List Step) → Standing x held w a (op ∷ ops) → Stands x (x.place + 4 * a) (items_for x held w a op)
 first_items x {held} w a op ops st =
     let i = one_addressed x held op in
@@ -146,7 +146,7 @@ first_calls x {held} w a op ops st =
     let i = one_addressed x held op in
     (each_append (HasRoom x) (items_for x held w a op) (items_at x (behind x held op) (w + long_size x.frame i) (a + size x.frame (near x w) i) ops) st.calls).0
 
--- the items after the first step
+-- the items after the first step are in place
 pub standing_tail : (x : Site) {held : Scratch} (w a : ℕ) (op : Step) (ops : List Step) → Standing x held w a (op ∷ ops) → Standing x (behind x held op) (w + long_size x.frame (one_addressed x held op)) (a + size x.frame (near x w) (one_addressed x held op)) ops
 standing_tail x {held} w a op ops st =
     let i = one_addressed x held op in
@@ -169,7 +169,7 @@ standing_tail x {held} w a op ops st =
       seen = seen_next x.frame (all_addressed x) i (addressed_at x (behind x held op) ops) w a st.seen;
     }
 
--- what is known is forgotten at a label; if no step is left, nothing needs to be known
+-- if no step is left, nothing needs to be known about the scratch registers
 standing_none : (x : Site) {held : Scratch} (w a : ℕ) → Standing x held w a [] → Standing x nothing w a []
 standing_none x {held} w a st = record { placed = st.placed; from = st.from; to = st.to; last = st.last; calls = st.calls; fine = st.fine; seen = st.seen }
 
@@ -204,7 +204,7 @@ step_at code s a i e f = ap (λ b. executed_above code.floor (code.at b) s) e �
 pub arrives : (p q : ℕ) → IsPlace p → IsPlace q → (p + (q + (2 ^ 32 - p)) % 2 ^ 32) % 2 ^ 32 ≡ q
 arrives p q from to = let x = from.to in let y = to.to in omega arith
 
--- a jump from one place to another
+-- a jump takes the machine from one place to another
 pub jump_step : (code : Code) (s : State) (p q : ℕ) → s.pc ≡ p → IsPlace p → IsPlace q → code.at p ≡ Some (Jal 0 ((q + (2 ^ 32 - p)) % 2 ^ 32)) → machine_step code s ≡ Continues (record s { pc = q })
 jump_step code s p q e from to f =
     let i = (q + (2 ^ 32 - p)) % 2 ^ 32 in

@@ -156,7 +156,7 @@ store_at_by x {held} w a width g n r rest l h s (e, st, inside) (Some v) is =
 pub store_at_case : (x : Site) {held : Scratch} (w a : ℕ) (width : Width) (g n r : ℕ) (rest : List Step) (l : Locations) (h : World) (s : State) → Given x held w a (StoreAt width g n r ∷ rest) l h s → Case x (StoreAt width g n r ∷ rest) l h s
 store_at_case x w a width g n r rest l h s given = store_at_by x w a width g n r rest l h s given (element h width g n) refl
 
--- ---- nearby elements: elements of an object that begins that much further on
+-- ---- nearby elements, treated as elements of an object that begins `word` elements further on
 
 near_leads : (width : Width) (i base n c at : ℕ) → n ≡ at → element_place width base (add n c) < 2 ^ 32 → Leads width i (element_place width base (add n c)) (known_place width base c) at
 near_leads Byte i base n c at e lt o part f same both is = by o part (f 5) (f i) both is (same ∙ sym e)
@@ -212,7 +212,7 @@ branch_case x w a o nonzero b c n rest l h s (e, st, inside) all =
     stepped x ops (led nonzero word rest (place x.steps n)) l l h h s (λ ws. ap (λ z. tried z (λ q. Goes (at_steps (led nonzero q rest (place x.steps n)) l h ws))) applied)
     (told_reaches x _ a n rest l h s (comparison o b c) word nonzero (near x w n) e inside st.from (standing_tail x w a (Branch o nonzero b c n) rest st) all (near_nears x w a n ops st) (first_items x w a (Branch o nonzero b c n) rest st) does.tells)
 
--- a branch on a register and a word compares the register with x0 only, or x5 with x0 after the recipe's first instruction
+-- a branch on a register and a word compares the register with x0, or compares x5 with x0 after the recipe's first instruction
 word_branch_reaches : (x : Site) {held : Scratch} (v a b n : ℕ) (k : WordRecipe) (word : ℕ) (z : Option Condition) (nonzero is : Bool) (rest : List Step) (l : Locations) (h : World) (s : State) → against_zero k b ≡ z → s.pc ≡ x.place + 4 * a → Within x held l h s → IsPlace (x.place + 4 * a) → Standing x (behind_word_branch z held) v (a + word_branch_size z is) rest → StandsWhole x
     → (is ≡ true → IsClose a (labels x n)) → Stands x (x.place + 4 * a) (word_branch_items z k is nonzero b a (labels x n)) → IsRightWord k (s.registers b) word → word < 2 ^ 32 → Reaches x (led nonzero word rest (place x.steps n)) l h s
 word_branch_reaches x v a b n k word (Some c) nonzero is rest l h s alone e inside p st all close f right lt =

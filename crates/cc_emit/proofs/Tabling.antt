@@ -1,4 +1,4 @@
--- The table of labels, filled from the back with one item after the other.
+-- The table of labels, filled from the back, one item at a time.
 use Rattle.std.proofs.Common.{◌≡◌, ℕ, zero, suc, ◌+◌, ◌-◌, ◌*◌, ◌<◌, ◌≤◌, List, [], ◌∷◌, Bool, Option, Some, None, true, false, length, get_or, set, drop, replicate, refl, sym, ap, ◌∙◌, subst, inl, inr, arith}
 use Rattle.std.specs.Prelude.{if◌then◌else◌}
 use Rattle.std.specs.List.{AllByRecursion}
@@ -116,7 +116,7 @@ step_says _ n e = absurd (cc)
 pub label_says : (item : Addressed) (n : ℕ) → Some n ≡ label_of item → item ≡ labelled item.known n
 label_says item n e = λ i. record { step = step_says item.step n e i; known = item.known }
 
--- the items from number `at` on are in the table
+-- the table covers the items from number `at` on
 pub record Filled (f : Frame) (first : List ℕ) (code : List Addressed) (count at here all : ℕ) (table : List ℕ) : Type 0 where
   pub within : at ≤ length code
   pub here_is : here ≡ long_behind f (drop at code)
@@ -149,7 +149,7 @@ rest_more code at item le (pos, is) =
 pub is_label_at : (code : List Addressed) (at : ℕ) (item : Addressed) (n : ℕ) (k : Remembered) → item ≡ get_or code at item → item ≡ labelled k n → labelled k n ≡ get_or code at (labelled k n)
 is_label_at code at item n k is e = subst (λ x. x ≡ get_or code at x) e is
 
--- the table has one item more
+-- the table covers one more item
 filled_more : (f : Frame) (first : List ℕ) (code : List Addressed) (count at here all here' all' : ℕ) (item : Addressed) (table table' : List ℕ) → Filled f first code count at here all table → At code at item
     → here' ≡ here + long_size f item → all' ≡ all + size f (near_behind first here') item → long_size f item ≤ 15 → size f (near_behind first here') item ≤ 15
     → (here' ≡ long_behind f (item ∷ drop at code) → all' ≡ behind f first (item ∷ drop at code) → IsTable f first (item ∷ drop at code) count table') → Filled f first code count (at - 1) here' all' table'

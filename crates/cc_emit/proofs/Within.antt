@@ -47,7 +47,7 @@ scratch_other r d lo hi (inl k) e = omega arith
 scratch_other r d lo hi (inr (inl k)) e = omega arith
 scratch_other r d lo hi (inr (inr k)) e = omega arith
 
--- the registers may change, but x2 and x3 do not
+-- a change of registers other than x2 and x3 leaves the machine within the body
 pub with_registers : (x : Site) {held : Scratch} (new : Scratch) (l k : Locations) (h : World) (s : State) (p : ℕ) (g : ℕ → ℕ) → g 0 ≡ 0 → ((r : ℕ) → g r < 2 ^ 32) → g 2 ≡ s.registers 2 → g 3 ≡ s.registers 3
     → ((r : ℕ) → IsAllocatable r → k (Register r) ≡ g r) → ((i : ℕ) → k (Slot i) ≡ l (Slot i)) → ((r : ℕ) → IsSavable r → Member r x.frame.saved ⊎ (g r ≡ x.from.registers r)) → Holds new g → Within x held l h s → Within x new k h (record s { pc = p; registers = g })
 with_registers x new l k h s p g at_0 words at_2 at_3 same slots kept holds w = record {
@@ -71,7 +71,7 @@ kept_set : (x : Site) (s : State) (d v r : ℕ) → IsTarget x.frame d → IsSav
 kept_set x s d v r u k (inl m) = inl m
 kept_set x s d v r u k (inr e) = elim (eqb_tells r d) [ inl t ↦ inl (subst (λ n. Member n x.frame.saved) (sym t.1) (u.1 (target_kept x.frame d u (subst IsSavable t.1 k)))) | inr t ↦ inr (set_other s.registers d v r t.1 ∙ e) ]
 
--- a register that the function may set is set
+-- setting a register that the function may set leaves the machine within the body
 pub within_set : (x : Site) {held : Scratch} (l : Locations) (h : World) (s : State) (p d v : ℕ) → IsTarget x.frame d → v < 2 ^ 32 → Within x held l h s → Within x (without d held) (put (Register d) v l) h (record s { pc = p; registers = with_register s.registers d v })
 within_set x l h s p d v u b w =
     let a = u.0.0 in
@@ -84,7 +84,8 @@ kept_scratch : (x : Site) (s : State) (d v r : ℕ) → (r ≡ d → ⊥) → Me
 kept_scratch x s d v r n (inl m) = inl m
 kept_scratch x s d v r n (inr e) = inr (set_other s.registers d v r n ∙ e)
 
--- a register that the function does not use is set, and something else is known about the scratch registers then
+-- setting a register that the function does not use leaves the machine within the body, with something else known about the scratch
+-- registers
 pub within_scratch : (x : Site) {held : Scratch} (new : Scratch) (l : Locations) (h : World) (s : State) (p d v : ℕ) → 4 ≤ d → d < 7 → v < 2 ^ 32 → Holds new (with_register s.registers d v) → Within x held l h s → Within x new l h (record s { pc = p; registers = with_register s.registers d v })
 within_scratch x new l h s p d v from to b holds w =
     with_registers x new l l h s p (with_register s.registers d v) (set_other s.registers d v 0 (λ e. omega arith) ∙ w.sound.zero) (set_word s.registers d v b w.sound.registers) (set_other s.registers d v 2 (λ e. omega arith)) (set_other s.registers d v 3 (λ e. omega arith))
@@ -96,7 +97,7 @@ within_scratch x new l h s p d v from to b holds w =
 pub within_5 : (x : Site) {held : Scratch} (l : Locations) (h : World) (s : State) (p v : ℕ) → v < 2 ^ 32 → Within x held l h s → Within x (without_address held) l h (record s { pc = p; registers = with_register s.registers 5 v })
 within_5 x l h s p v b w = within_scratch x _ l h s p 5 v (omega arith) (omega arith) b (holds_address_set _ s.registers v w.holds) w
 
--- something else, for example nothing, is known about the scratch registers
+-- the machine is within the body with something else, for example nothing, known about the scratch registers
 pub within_as : (x : Site) {held : Scratch} (new : Scratch) (l : Locations) (h : World) (s : State) → Holds new s.registers → Within x held l h s → Within x new l h s
 within_as x new l h s holds w = record {
   sound = w.sound;
@@ -114,7 +115,7 @@ within_as x new l h s holds w = record {
 pub within_nothing : (x : Site) {held : Scratch} (l : Locations) (h : World) (s : State) → Within x held l h s → Within x nothing l h s
 within_nothing x l h s w = within_as x nothing l h s (holds_nothing s.registers) w
 
--- only the place in the code changes
+-- a change of the place in the code leaves the machine within the body
 pub within_pc : (x : Site) {held : Scratch} (l : Locations) (h : World) (s : State) (p : ℕ) → Within x held l h s → Within x held l h (record s { pc = p })
 within_pc x l h s p w = record {
   sound = record { zero = w.sound.zero; registers = w.sound.registers; memory = w.sound.memory; input = w.sound.input };
@@ -136,7 +137,7 @@ low_stack x l h s w = let a = w.stack in let b = x.room in let c = x.code.low in
 pub above_floor : (x : Site) {held : Scratch} (l : Locations) (h : World) (s : State) → Within x held l h s → x.code.floor ≤ s.registers 2
 above_floor x l h s w = let a = w.stack in let b = x.room in omega arith
 
--- the word of a slot is set
+-- setting the word of a slot leaves the machine within the body
 pub within_slot : (x : Site) {held : Scratch} (l : Locations) (h : World) (s : State) (p i v : ℕ) → i < x.frame.slots → v < 2 ^ 32 → Within x held l h s → Within x held (put (Slot i) v l) h (record s { pc = p; memory = with_word s.memory (s.registers 2 + 4 * i) v })
 within_slot x l h s p i v lt b w =
     let at = s.registers 2 + 4 * i in
@@ -155,7 +156,7 @@ within_slot x l h s p i v lt b w =
       above = λ c le. word_other s.memory at v c (λ q. omega arith) ∙ w.above c le;
     }
 
--- an element is stored
+-- storing an element leaves the machine within the body
 pub within_store : (x : Site) {held : Scratch} (l : Locations) (h : World) (s : State) (p : ℕ) (width : Width) (g i v old : ℕ) → IsElement h width g i old → v < 2 ^ 32 → Within x held l h s
     → Within x held l (with_element h g i (kept width v)) (record s { pc = p; memory = stored (store_of width) s.memory (element_place width (x.layout.base g) i) v })
 within_store x l h s p width g i v old is b w =
@@ -177,7 +178,7 @@ within_store x l h s p width g i v old is b w =
       above = λ c le. words_behind width s.memory at v c (omega arith) ∙ w.above c le;
     }
 
--- a word of the input is taken
+-- reading a word of the input leaves the machine within the body
 pub within_read : (x : Site) {held : Scratch} (l : Locations) (h : World) (s : State) → Within x held l h s → Within x held l (after_read h) (record s { input = machine.rest_of s.input })
 within_read x l h s w = record {
   sound = record { zero = w.sound.zero; registers = w.sound.registers; memory = w.sound.memory; input = subst AreWords (sym (same_rest s.input)) (rest_words s.input w.sound.input) };
@@ -192,7 +193,7 @@ within_read x l h s w = record {
   above = w.above;
 }
 
--- a word is written
+-- writing a word leaves the machine within the body
 pub within_write : (x : Site) {held : Scratch} (l : Locations) (h : World) (s : State) (v : ℕ) → Within x held l h s → Within x held l (after_write v h) (record s { output = s.output ++ (v ∷ []) })
 within_write x l h s v w = record {
   sound = record { zero = w.sound.zero; registers = w.sound.registers; memory = w.sound.memory; input = w.sound.input };

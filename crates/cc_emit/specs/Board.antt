@@ -9,14 +9,14 @@ use Rattle.cc_rv32.specs.declared.outcome.MachineOutcome.TheVariants.{Going, Exi
 use Rattle.cc_rv32.specs.declared.image.Image.{Image}
 use Rattle.cc_rv32.specs.Machine.{State, Turn, Continues, Traps, Run, Behavior, globals_from, globals_to, stack_to, puts, loaded, stored, load_bytes, store_bytes, execute, instruction_at, turned, start, seen}
 
--- loads and stores go to the globals and to the stack from `floor` on
+-- whether data of the board lies at an address: in the globals, or in the stack from `floor` on
 abbrev pub is_data_above : (floor a : ℕ) → Bool
 is_data_above floor a = (nat_le globals_from a && nat_lt a globals_to) || (nat_le floor a && nat_lt a stack_to)
 
 abbrev pub is_accessible_above : (floor bytes a : ℕ) → Bool
 is_accessible_above floor bytes a = (a % bytes == 0) && is_data_above floor a
 
--- a load or a store requires that its address is accessible there; every other instruction does what it does on the whole machine
+-- a load or a store traps unless its address is accessible on the board; every other instruction does what it does on the whole machine
 abbrev pub execute_above : (floor : ℕ) → Instr → State → Turn
 execute_above floor (Load o d s1 i) s = let a = add (s.registers s1) i in if is_accessible_above floor (load_bytes o) a then puts d (loaded o s.memory a) s else Traps
 execute_above floor (Store o s1 s2 i) s = let a = add (s.registers s1) i in if is_accessible_above floor (store_bytes o) a then Continues (record s { pc = s.pc + 4; memory = stored o s.memory a (s.registers s2) }) else Traps

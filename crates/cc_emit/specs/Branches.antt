@@ -12,7 +12,7 @@ use Rattle.cc_emit.specs.declared.condition.Condition.{Condition}
 use Rattle.cc_emit.specs.declared.recipe.WordRecipe.{WordRecipe}
 use Rattle.cc_emit.specs.declared.recipe.WordRecipe.TheVariants.{WithImmediate, OnZero, ZeroOfImmediate}
 
--- the operation that is taken exactly if another one is not
+-- the operation of a branch that is taken exactly if one with the given operation is not
 abbrev pub opposite : BranchOperation → BranchOperation
 opposite Beq = Bne
 opposite Bne = Beq
@@ -21,7 +21,7 @@ opposite Bge = Blt
 opposite Bltu = Bgeu
 opposite Bgeu = Bltu
 
--- a branch's condition: two registers compare like this
+-- the condition of a branch with this operation on these two registers
 abbrev pub compares : BranchOperation → (left right : ℕ) → Condition
 compares operation left right = record { operation = operation; left = left; right = right }
 
@@ -34,7 +34,7 @@ turned nonzero c = if nonzero then c else opposed c
 
 -- ---- two registers
 
--- the condition under which an operator that compares gives 1; "at most" means that the right one is at least the left one
+-- the condition under which an operator that compares yields 1; "at most" means that the right one is at least the left one
 abbrev pub comparison : binary.Binary → (left right : ℕ) → Condition
 comparison Eq a b = compares Beq a b
 comparison LtS a b = compares Blt a b
@@ -45,7 +45,7 @@ comparison operator a b = compares Bne a b
 
 -- ---- a register and a word
 
--- the condition under which an instruction with an immediate gives a word that is not 0, if it compares its register with 0. There are
+-- the condition under which an instruction with an immediate yields a word that is not 0, if it compares its register with 0. There are
 -- three cases: the register's word is less than 0; it is less than 1, so 0 is at least that word; it is less than 1 as unsigned, so it
 -- equals 0
 abbrev pub immediate_against_zero : ImmediateOperation → (part from : ℕ) → Option Condition
@@ -53,21 +53,21 @@ immediate_against_zero Slti n a = if n == 0 then Some (compares Blt a 0) else if
 immediate_against_zero Sltiu n a = if n == 1 then Some (compares Beq a 0) else None
 immediate_against_zero operation n a = None
 
--- the same for an instruction on 0 and a register: the register's word is more than 0; or it is more than 0 as unsigned, so it does not
--- equal 0
+-- the condition under which an instruction on 0 and a register yields a word that is not 0: the register's word is more than 0; or it
+-- is more than 0 as unsigned, so it does not equal 0
 abbrev pub operation_on_zero : RegisterOperation → (from : ℕ) → Option Condition
 operation_on_zero Slt a = Some (compares Blt 0 a)
 operation_on_zero Sltu a = Some (compares Bne a 0)
 operation_on_zero operation a = None
 
--- the condition under which a recipe gives a word that is not 0
+-- the condition under which a recipe yields a word that is not 0
 abbrev pub against_zero : WordRecipe → (from : ℕ) → Option Condition
 against_zero (WithImmediate o n) a = immediate_against_zero o n a
 against_zero (ZeroOfImmediate o n) a = option_map opposed (immediate_against_zero o n a)
 against_zero (OnZero o) a = operation_on_zero o a
 against_zero recipe a = None
 
--- how the word of a recipe's first instruction compares to 0 if the recipe gives a word that is not 0
+-- the comparison with 0 that holds for the result of a recipe's first instruction exactly if the recipe's result is not 0
 abbrev pub asked_of : WordRecipe → BranchOperation
 asked_of (ZeroOfImmediate o n) = Beq
 asked_of recipe = Bne

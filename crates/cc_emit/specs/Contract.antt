@@ -41,14 +41,14 @@ store_of Word = Sw
 abbrev pub element_place : Width → (base index : ℕ) → ℕ
 element_place width base index = base + bytes width * index
 
--- the number of words that an object takes
+-- the number of words that an object occupies
 abbrev pub size_words : Size → ℕ
 size_words s = words_of s.width s.elements
 
 abbrev pub words_in : (objects : List Size) → (number : ℕ) → ℕ
 words_in objects g = size_words (size_in objects g)
 
--- where each object lies, by its number: at a multiple of 4, and no word belongs to two of them
+-- where each object lies, by its number: among the globals, at a multiple of 4, and no word belongs to two objects
 pub record ObjectLayout (objects : List Size) : Type 0 where
   pub base : ℕ → ℕ
   pub from : (g : ℕ) → globals_from ≤ base g
@@ -62,7 +62,7 @@ element_at s memory base index = loaded (load_of s.width) memory (element_place 
 
 -- ---- code
 
--- in m instructions the machine comes from s to t
+-- m instructions take the machine from s to t
 abbrev pub Path : Code → ℕ → State → State → Type 0
 Path code zero s t = s ≡ t
 Path code (suc m) s t = (u : State) × (executed_above code.floor (code.at s.pc) s ≡ Continues u) × Path code m u t
@@ -73,7 +73,7 @@ filled places place a (Plain i) = i
 filled places place a (Call g) = Jal 1 ((places g + (2 ^ 32 - a)) % 2 ^ 32)
 filled places place a (Go n) = Jal 0 ((place + 4 * n + (2 ^ 32 - a)) % 2 ^ 32)
 
--- the items are at this address
+-- the items are in the code from the address `a` on
 abbrev pub Placed : Code → (places : ℕ → ℕ) → (place a : ℕ) → List PieceItem → Type 0
 Placed code places place a [] = Unit {0}
 Placed code places place a (item ∷ items) = (code.at a ≡ Some (filled places place a item)) × Placed code places place (a + 4) items
@@ -85,7 +85,7 @@ pub record IsSound (s : State) : Type 0 where
   pub memory : (a : ℕ) → s.memory a < 2 ^ 32
   pub input : AreWords s.input
 
--- the machine's state has what the functions share
+-- the machine's state `s` represents the world `h`, which the functions share
 pub record Shares {objects : List Size} (layout : ObjectLayout objects) (s : State) (h : World) : Type 0 where
   pub sizes : map size_of h.globals ≡ objects
   pub globals : (g i : ℕ) → i < (size_in objects g).elements → element_at (size_in objects g) s.memory (layout.base g) i ≡ get_or (object_words h g) i 0
@@ -101,7 +101,7 @@ Passes (w ∷ ws) r s = (s.registers r ≡ w) × Passes ws (suc r) s
 abbrev pub IsKept : ℕ → Type 0
 IsKept r = ((8 ≤ r) × (r ≤ 9)) ⊎ ((18 ≤ r) × (r ≤ 27))
 
--- `Holds` is true of each function that items call
+-- `Holds` is true of each function that the items call
 abbrev pub EachCalled : (ℕ → Type 0) → List PieceItem → Type 0
 EachCalled Holds [] = Unit {0}
 EachCalled Holds (Plain i ∷ items) = EachCalled Holds items
@@ -115,13 +115,13 @@ largest_frame = 2032
 abbrev pub most_open : ℕ
 most_open = 1024
 
--- A call of the function f has enough bytes: for its frame, and in each call that its items make, for its frame plus what the called
--- function has. So `need` may be exact or more; for example `largest_frame` for each call that the limit still allows.
+-- A call of the function f has enough bytes: those of its frame, and for each call that its items make, those of its frame and of the
+-- called function. So `need` may be exact or larger; for example `largest_frame` for each call that the limit still allows.
 pub record IsEnough (need : (function opened : ℕ) → ℕ) (f frame : ℕ) (items : List PieceItem) : Type 0 where
   pub own : (opened : ℕ) → opened < most_open → frame ≤ need f opened
   pub calls : (opened : ℕ) → opened < most_open → EachCalled (λ g. frame + need g (suc opened) ≤ need f opened) items
 
--- the machine is at a function's first word, called while `opened` calls are open
+-- the machine is at the first word of a function that was called while `opened` calls were open
 pub record Enters (meaning : Meaning) (layout : ObjectLayout meaning.objects) (code : Code) (f opened place : ℕ) (ws : List ℕ) (h : World) (s : State) : Type 0 where
   pub is_call : IsCall meaning f ws h
   pub at : s.pc ≡ place
@@ -133,13 +133,11 @@ pub record Enters (meaning : Meaning) (layout : ObjectLayout meaning.objects) (c
   pub passes : Passes ws 10 s
   pub shares : Shares layout s h
 
--- the global pointer, which is the word in x3 in a function that sets it: 2 KiB after the beginning of the globals, so that an access
--- reaches the first 4 KiB of them from there
+-- the word of x3 in a function that sets it: 2 KiB after the beginning of the globals, so that one access reaches their first 4 KiB
 abbrev pub global_pointer : ℕ
 global_pointer = globals_from + 2048
 
--- what x3 holds after a call: what it held before, or the global pointer; so a function that set it to the pointer still finds it
--- there
+-- what x3 holds after a call: what it held before, or the global pointer; so a function that set it to the pointer still finds it there
 abbrev pub IsKeptOrPointer : (before after : ℕ) → Type 0
 IsKeptOrPointer before after = (after ≡ before) ⊎ (after ≡ global_pointer)
 
@@ -154,26 +152,26 @@ pub record ComesBack {objects : List Size} (layout : ObjectLayout objects) (s : 
   pub kept : (r : ℕ) → IsKept r → t.registers r ≡ s.registers r
   pub above : (a : ℕ) → s.registers 2 ≤ a → t.memory a ≡ s.memory a
 
--- The machine, starting from s, does what the source does within n steps; `left` of them are left if it gives an answer. Each of the m
--- instructions pays for at most c of the steps taken; at most `spare` of them are paid for elsewhere. So more instructions are executed for
--- a greater n, and a run that never ends is matched by one that never ends.
+-- The machine, starting from s, does what the source does within n steps; `left` of them are left if the source returns an answer. Each of
+-- the m instructions pays for at most c of the steps taken; at most `spare` steps are paid for elsewhere. So more instructions are executed
+-- for a greater n, and a run that never ends is matched by one that never ends.
 abbrev pub Meets : {objects : List Size} (layout : ObjectLayout objects) → Code → (c spare n : ℕ) → State → Effect → Type 0
 Meets layout code c spare n s (Gives a left) = (m : ℕ) × (t : State) × Path code m s t × ComesBack layout s a t × (n ≤ left + spare + c * m)
 Meets layout code c spare n s (Unfinished o) = (m : ℕ) × (t : State) × Path code m s t × (t.output ≡ o) × (n ≤ spare + c * m)
 Meets layout code c spare n s (Failed o) = Unit {0}
 
--- each call made while `opened` calls are open does what the source's call does; the jump to it pays for the c spare steps
+-- each call made while `opened` calls are open does what the source's call does; the jump that makes the call pays for the c spare steps
 abbrev pub CallsMeet : (meaning : Meaning) → ObjectLayout meaning.objects → Code → (ℕ → ℕ) → (c opened : ℕ) → Type 0
 CallsMeet meaning layout code places c opened =
     (g : ℕ) (ws : List ℕ) (h : World) (s : State) (n : ℕ) → g < meaning.functions → Enters meaning layout code g opened (places g) ws h s → Meets layout code c c n s (meaning.call n opened g ws h)
 
--- an address at which code can be: a multiple of a word, within the bytes that the memory map has for code
+-- an address at which code can be: a multiple of 4, within the bytes that the memory map has for code
 pub record IsPlace (a : ℕ) : Type 0 where
   pub aligned : a % 4 ≡ 0
   pub from : 0x10000 ≤ a
   pub to : a < 0x100000
 
--- What a piece keeps, wherever it is, at each number of open calls: if the calls that it makes do what the source's do at c steps per
+-- What a piece keeps, wherever it is and however many calls are open: if the calls that it makes do what the source's do at c steps per
 -- instruction, its body does what the source's body does. Of the two `rate * c` below, the first is the number of steps for which one
 -- instruction pays. The second is what is spare: the steps of one more instruction, which are left to the jump that called the function. A
 -- function without a frame has nothing to execute on entry, so when the source's body has begun, the machine may still be at the function's
@@ -194,9 +192,9 @@ abbrev pub AreFit : (functions long : ℕ) → List PieceItem → Type 0
 AreFit functions long [] = Unit {0}
 AreFit functions long (i ∷ is) = IsFit functions long i × AreFit functions long is
 
--- The items of a function's code do what it does. A pair of Linear and the pairs above it keep `follows`, which is their promise, and
--- `keeps_up`, which only serves to go on from there. A selected pair and a piece keep only what serves to go on; their promise is that of
--- the linked image.
+-- The items of a function's code do what the function does. A pair of Linear and the pairs above it keep `follows`, which is their promise,
+-- and `keeps_up`, which only serves the next pass. A selected pair and a piece keep only what serves the next pass; their promise is that
+-- of the linked image.
 pub record IsPiece (meaning : Meaning) (layout : ObjectLayout meaning.objects) (f frame : ℕ) (items : List PieceItem) : Type 0 where
   pub rate : ℕ
   pub meets : PieceMeets meaning layout f frame rate items

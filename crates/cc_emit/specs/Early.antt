@@ -1,7 +1,7 @@
 -- Functions that may return before they have a frame. Such a function begins with operations on registers that a call destroys, and a test.
 -- The test leads to a label after which the function returns, with at most one such operation before the return. In such a function these
--- come before the frame is made: the operations, the test the other way round, what is after the label, and the return. The test jumps over
--- them to the rest, which is in its frame as the code of any function is.
+-- come before the frame is made: the operations, the reversed test, what is after the label, and the return. The reversed test jumps over
+-- the return to the rest, which is in the frame as the code of any function is.
 use Rattle.std.specs.Prelude.{ℕ, Bool, true, false, not, ◌&&◌, ◌||◌, ◌==◌, nat_le, if◌then◌else◌, Option, Some, None, option_map, List, [], ◌∷◌, ◌++◌}
 use Rattle.cc_ltl.specs.declared.operation.Move.TheVariants.{Between}
 use Rattle.cc_linear_language.specs.declared.item.LinearItem.TheVariants.{Label, IfNonzero, IfZero, Copy, Const, Unary, Binary, Return}
@@ -17,7 +17,7 @@ use Rattle.cc_emit.specs.Frames.{frame_of, frame_size}
 abbrev pub is_lost : (register : ℕ) → Bool
 is_lost r = (r == 7) || ((nat_le 10 r && nat_le r 17) || nat_le 28 r)
 
--- the register that an operation on registers writes
+-- the register that a step writes, if the step is an operation on registers
 abbrev pub written_by : Step → Option ℕ
 written_by (One (Copy (Between to from))) = Some to
 written_by (One (Const to word)) = Some to
@@ -35,7 +35,7 @@ is_light step = is_into_lost (written_by step)
 
 -- ---- tests
 
--- where a test leads, and the test the other way round
+-- where a test leads, and the reversed test
 abbrev pub fork_of : Step → Option Fork
 fork_of (One (IfNonzero from to)) = Some (record { to = to; turned = One (IfZero from to) })
 fork_of (One (IfZero from to)) = Some (record { to = to; turned = One (IfNonzero from to) })
@@ -57,14 +57,14 @@ abbrev pub last_of : List Step → Option (List Step)
 last_of [] = None
 last_of (step ∷ steps) = if is_return step then Some [] else last_one step steps
 
--- the steps between a label and the return after it: at most one, and a light one; none if they are other steps
+-- the steps between a label and the return after it, if there is at most one and it is light
 abbrev pub ending : List Step → Option (List Step)
 ending (One (Label label) ∷ steps) = last_of steps
 ending steps = None
 
 -- ---- what is before the frame
 
--- the steps before the frame, followed by the label to which the test goes on, and the steps in the frame
+-- the steps before the frame, followed by the label to which the reversed test leads, and the steps in the frame
 pub record Early : Type 0 where
   pub head : List Step
   pub rest : List Step
@@ -80,7 +80,7 @@ early_by all (Some fork) rest = early_at (ending (place all fork.to)) fork rest
 abbrev pub with_first : Step → Early → Early
 with_first step e = record { head = step ∷ e.head; rest = e.rest }
 
--- what comes before the frame, for these steps of the function
+-- what comes before the frame, given all steps of the function and those from a point on
 abbrev pub early_from : (all : List Step) → List Step → Option Early
 early_from all [] = None
 early_from all (step ∷ steps) = if is_light step then option_map (with_first step) (early_from all steps) else early_by all (fork_of step) steps

@@ -1,5 +1,5 @@
 -- The code of a function: the items of its steps, and their order. A place is the number of items of the piece before it. A first pass, in
--- which each branch is far, shows which branches are near; a second pass has the places of labels with each branch at its final length.
+-- which each branch is long, shows which branches are near; a second pass has the places of labels with each branch at its final length.
 use Rattle.std.specs.Prelude.{ℕ, ◌+◌, ◌-◌, ◌*◌, ◌/◌, ◌%◌, ◌^◌, Bool, false, ◌&&◌, ◌==◌, nat_lt, nat_le, if◌then◌else◌, Option, Some, None, List, [], ◌∷◌, ◌++◌, length}
 use Rattle.cc_words.specs.Words.{add, neg}
 use Rattle.cc_words.specs.declared.operators.Unary as unary
@@ -43,7 +43,7 @@ use Rattle.cc_emit.specs.Branches.{compares, opposite, turned, comparison, again
 abbrev pub addi : (to from immediate : ℕ) → PieceItem
 addi to from immediate = Plain (instr.OpImm Addi to from immediate)
 
--- an element at address + offset, loaded and stored
+-- a load and a store of the element at address + offset
 abbrev pub load_element : Width → (to address offset : ℕ) → PieceItem
 load_element width to address offset = Plain (instr.Load (load_of width) to address offset)
 
@@ -96,21 +96,21 @@ move_item (Between to from) = addi to from 0
 move_item (Reload to slot) = load_word to 2 (4 * slot)
 move_item (Spill slot from) = store_word 2 from (4 * slot)
 
--- a word: only its lower part, only its upper part, or both
+-- a register is set to a word, by only the word's lower part, only its upper part, or both
 abbrev pub const_items : (to word : ℕ) → List PieceItem
 const_items to w =
     if high w == 0 then addi to 0 (low w) ∷ []
     else if low w == 0 then Plain (instr.Lui to (high w)) ∷ []
     else Plain (instr.Lui to (high w)) ∷ addi to to (low w) ∷ []
 
--- an operator on one word
+-- the instruction of an operator on one word
 abbrev pub unary_instr : unary.Unary → (to from : ℕ) → Instr
 unary_instr Neg to from = instr.Op operation.Sub to 0 from
 unary_instr Complement to from = instr.OpImm Xori to from (2 ^ 32 - 1)
 unary_instr IsZero to from = instr.OpImm Sltiu to from 1
 
--- the instructions for an operator on two words: one instruction; or asking whether the word that one gives is zero, with the operands as
--- they are or exchanged; or asking whether it is not zero
+-- the instructions for an operator on two words: one instruction; one, with the operands as they are or exchanged, then one that tests
+-- whether its result is 0; or one, then one that tests whether it is not 0
 abbrev pub recipe : binary.Binary → Recipe
 recipe Add = Direct operation.Add
 recipe Sub = Direct operation.Sub
@@ -153,25 +153,25 @@ base_register known = 6
 abbrev pub from_pointer : (address : ℕ) → ℕ
 from_pointer a = low (add a (2 ^ 32 - global_pointer))
 
--- the access's offset from that register, or from what x5 holds of an element's address: the object's part of the address
+-- the offset of an access from the base register, or from what x5 holds of an element's address: the object's part of the address
 abbrev pub part_of : Remembered → (address : ℕ) → ℕ
 part_of ByPointer a = from_pointer a
 part_of ElementByPointer a = from_pointer a
 part_of known a = low a
 
--- before the access to an element: x5 becomes the element's address minus the object's part of it; the register `distance` has the
--- element's distance in bytes from the first one
+-- what precedes the access to an element: x5 becomes the element's address minus the object's part of it; the register `distance` has the
+-- element's distance in bytes from the first element
 abbrev pub based : Remembered → (base distance : ℕ) → List PieceItem → List PieceItem
 based known base distance items = upper_items known base ++ Plain (instr.Op operation.Add 5 distance (base_register known)) ∷ items
 
--- before the access to an element whose number is in a register, unless x5 has its address already
+-- what precedes the access to an element whose number is in a register, unless x5 already has the element's address
 abbrev pub indexed : Remembered → Width → (base index : ℕ) → List PieceItem → List PieceItem
 indexed Element width base index items = items
 indexed ElementByPointer width base index items = items
 indexed known Byte base index items = based known base index items
 indexed known Word base index items = Plain (instr.Shift Slli 5 index 2) ∷ based known base 5 items
 
--- a service of the machine
+-- a call of a service of the machine
 abbrev pub service : (number : ℕ) → List PieceItem
 service number = addi 17 0 number ∷ Plain instr.Ecall ∷ []
 
@@ -185,8 +185,8 @@ branch_items near c place to =
     if near then Plain (instr.Branch c.operation c.left c.right (distance place to)) ∷ []
     else Plain (instr.Branch (opposite c.operation) c.left c.right 8) ∷ Go to ∷ []
 
--- the items of one item of Linear at a place; `known` is how much of its address the registers hold, `base` has the objects' addresses,
--- `labels` the labels' places, and `near` says whether a branch from here to a label is near
+-- the items of one item of Linear at a place; `known` is how much the registers hold of the address that it accesses, `base` has the
+-- objects' addresses, `labels` the labels' places, and `near` says whether a branch from here to a label is near
 abbrev pub items_of_one : (base : ℕ → ℕ) → Frame → (near : ℕ → Bool) → (labels : ℕ → ℕ) → (place : ℕ) → Remembered → LinearItem → List PieceItem
 items_of_one base f near labels place known (Label label) = []
 items_of_one base f near labels place known (Jump to) = Go (labels to) ∷ []
@@ -206,7 +206,7 @@ items_of_one base f near labels place known Return = epilogue f
 -- ---- the items of the other steps
 
 -- the instructions for an operator on a register and a word: one instruction with an immediate, a shift, or one instruction on 0 and the
--- register; or asking whether the word that an instruction with an immediate gives is zero, or whether it is not
+-- register; or an instruction with an immediate, then one that tests whether its result is 0, or whether it is not
 abbrev pub word_recipe : WordOperator → (word : ℕ) → WordRecipe
 word_recipe immediates.Add w = WithImmediate Addi (low w)
 word_recipe immediates.Sub w = WithImmediate Addi (low (neg w))
@@ -225,14 +225,14 @@ word_recipe immediates.LtU w = WithImmediate Sltiu (low w)
 -- "at most the word" is "less than the next word"
 word_recipe immediates.LeS w = WithImmediate Slti (low (add w 1))
 word_recipe immediates.LeU w = WithImmediate Sltiu (low (add w 1))
--- "more than the word", which is 0, is "0 is less"
+-- the word is 0 here, so "more than the word" is "0 is less"
 word_recipe immediates.GtS w = OnZero operation.Slt
 word_recipe immediates.GtU w = OnZero operation.Sltu
 -- "at least the word" is "not less than the word"
 word_recipe immediates.GeS w = ZeroOfImmediate Slti (low w)
 word_recipe immediates.GeU w = ZeroOfImmediate Sltiu (low w)
 
--- the first instruction of a recipe, with its result in a register
+-- the first instruction of a recipe, with its result in register `to`
 abbrev pub first_instr : WordRecipe → (to from : ℕ) → Instr
 first_instr (WithImmediate o n) to a = instr.OpImm o to a n
 first_instr (ShiftBy o n) to a = instr.Shift o to a n
@@ -245,8 +245,8 @@ word_recipe_items (ZeroOfImmediate o n) to a = Plain (first_instr (ZeroOfImmedia
 word_recipe_items (NonzeroOfImmediate o n) to a = Plain (first_instr (NonzeroOfImmediate o n) 5 a) ∷ Plain (instr.Op operation.Sltu to 0 5) ∷ []
 word_recipe_items recipe to a = Plain (first_instr recipe to a) ∷ []
 
--- a branch on a register and a word, by the recipe of the comparison: a comparison with x0 only, if that has the same result, else one of
--- x5 after the recipe's first instruction
+-- a branch on a register and a word, by the recipe of the comparison: a comparison of the register with x0 if that has the same result,
+-- else one of x5 with x0 after the recipe's first instruction
 abbrev pub word_branch_items : (alone : Option Condition) → WordRecipe → (near nonzero : Bool) → (from place to : ℕ) → List PieceItem
 word_branch_items (Some c) recipe near nonzero a place to = branch_items near (turned nonzero c) place to
 word_branch_items None recipe near nonzero a place to = Plain (first_instr recipe 5 a) ∷ branch_items near (turned nonzero (compares (asked_of recipe) 5 0)) (place + 1) to
@@ -261,8 +261,8 @@ load_at known width to address = upper_items known address ++ load_element width
 abbrev pub store_at : Remembered → Width → (from address : ℕ) → List PieceItem
 store_at known width from address = upper_items known address ++ store_element width (base_register known) from (part_of known address) ∷ []
 
--- the items of a step at a place; `known` is how much of its address the registers hold; a nearby element is an element of an object that
--- begins that much further on
+-- the items of a step at a place; `known` is how much the registers hold of the address that it accesses; a nearby element is treated as
+-- an element of an object that begins `word` elements further on
 abbrev pub items_of_step : (base : ℕ → ℕ) → Frame → (near : ℕ → Bool) → (labels : ℕ → ℕ) → (place : ℕ) → Remembered → Step → List PieceItem
 items_of_step base f near labels place known (One item) = items_of_one base f near labels place known item
 items_of_step base f near labels place known (Immediate operator to from word) = word_recipe_items (word_recipe operator word) to from
@@ -370,7 +370,7 @@ abbrev pub is_label_step : (label : ℕ) → Step → Bool
 is_label_step label (One (Label other)) = other == label
 is_label_step label step = false
 
--- the label, if the step is one
+-- the label, if the step is a label
 abbrev pub label_of_step : Step → Option ℕ
 label_of_step (One (Label label)) = Some label
 label_of_step step = None
@@ -383,8 +383,8 @@ abbrev pub long_place : Frame → (place : ℕ) → List Addressed → (label : 
 long_place f place [] label = place
 long_place f place (s ∷ steps) label = if is_label label s then place else long_place f (place + long_size f s) steps label
 
--- whether a branch, which reaches from -4096 to 4092 bytes, reaches a place from another and from the place after that: a step's branch may
--- come after an instruction
+-- whether a branch at `from`, or at the place after it, reaches `to`: it reaches from -4096 to 4092 bytes, and may come after another
+-- instruction of its step
 abbrev pub is_close : (from to : ℕ) → Bool
 is_close from to = nat_lt from (to + 1024) && nat_lt to (from + 1024)
 
@@ -400,7 +400,7 @@ short_place f near long place (s ∷ steps) label =
 
 -- ---- the code
 
--- the items of steps from these places on
+-- the items of steps that begin at these places
 abbrev pub emitted : (base : ℕ → ℕ) → Frame → (near : (long label : ℕ) → Bool) → (labels : ℕ → ℕ) → (long place : ℕ) → List Addressed → List PieceItem
 emitted base f near labels long place [] = []
 emitted base f near labels long place (s ∷ steps) =

@@ -7,7 +7,7 @@ use Rattle.cc_linear_language.specs.declared.item.LinearItem.TheVariants.{Copy, 
 use Rattle.cc_select.specs.declared.step.Step.{Step}
 use Rattle.cc_select.specs.declared.step.Step.TheVariants.{One, Immediate, LoadAt, LoadNear}
 
--- slot i lies at x2 + 4 * i, and after the slots come the saved registers in this order; `sets_pointer` says whether the function sets x3
+-- slot i lies at x2 + 4 * i, and after the slots come the registers of `saved`, in order; `sets_pointer` says whether x3 is set
 pub record Frame : Type 0 where
   pub sets_pointer : Bool
   pub slots : ℕ
@@ -30,7 +30,7 @@ item_writes r (Binary operator to left right) = to == r
 item_writes r (Load width object to index) = to == r
 item_writes r item = false
 
--- whether a step writes a register, in the same sense
+-- whether a step writes a register; a call that destroys the register does not count
 abbrev pub writes : (register : ℕ) → Step → Bool
 writes r (One item) = item_writes r item
 writes r (Immediate operator to from word) = to == r
@@ -42,7 +42,7 @@ abbrev pub is_written : List Step → (register : ℕ) → Bool
 is_written [] r = false
 is_written (step ∷ steps) r = writes r step || is_written steps r
 
--- those of these registers that the steps write
+-- those registers of a list that the steps write
 abbrev pub written : List Step → List ℕ → List ℕ
 written steps [] = []
 written steps (r ∷ rs) = if is_written steps r then r ∷ written steps rs else written steps rs

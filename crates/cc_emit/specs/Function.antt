@@ -1,4 +1,5 @@
--- The code of a whole function: its steps, each with how much of its address is known, in their frame.
+-- The code of a whole function: its steps in their frame, each with how much is known of the address that it
+-- accesses.
 use Rattle.std.specs.Prelude.{ℕ, ◌+◌, Bool, false, Option, Some, None, List, ◌++◌, length, map}
 use Rattle.cc_c_semantics.specs.Numbered.{objects_in}
 use Rattle.cc_select.specs.Pair as above
@@ -11,7 +12,7 @@ use Rattle.cc_emit.specs.Early.{Early, early}
 use Rattle.cc_emit.specs.Emission.{framed_items}
 use Rattle.cc_emit.specs.Scratch.{nothing, addressed, gains}
 
--- the code of a function with this many slots, which sets x3 to the global pointer or does not
+-- the code of a function with this many slots; `sets_pointer` says whether it sets x3
 abbrev pub items_with : (base : ℕ → ℕ) → (sets_pointer : Bool) → (slots : ℕ) → List Step → List PieceItem
 items_with base sets_pointer slots steps = framed_items base (frame_of sets_pointer slots steps) (addressed base sets_pointer nothing steps)
 
@@ -19,7 +20,7 @@ items_with base sets_pointer slots steps = framed_items base (frame_of sets_poin
 abbrev pub whole_items : (base : ℕ → ℕ) → (slots : ℕ) → List Step → List PieceItem
 whole_items base slots steps = items_with base (gains base steps) slots steps
 
--- an item of code that has this many others before it
+-- an item of code, adjusted for the `before` items that are put in front of it
 abbrev pub shifted : (before : ℕ) → PieceItem → PieceItem
 shifted n (Plain i) = Plain i
 shifted n (Call g) = Call g
@@ -40,6 +41,6 @@ function_items base slots steps = early_items base slots (early slots steps) ste
 unfoldable pub pair_items : above.Pair → List PieceItem
 pair_items p = function_items (object_address (objects_in (above.tree_of p))) p.ltl.slots p.code
 
--- how many bytes the frame of a pair's steps has
+-- the size in bytes of the frame of a pair's steps
 unfoldable pub pair_frame : above.Pair → ℕ
 pair_frame p = frame_size (frame_of false p.ltl.slots p.code)

@@ -10,7 +10,7 @@ pub mod Frames
 pub mod Branches
 -- the items of each step
 pub mod Emission
--- what x3 and the scratch registers hold of addresses, which steps use that, and whether a function sets x3
+-- what x3 and the scratch registers hold of addresses, which steps use them, and whether a function sets x3
 pub mod Scratch
 -- what comes before a function's frame
 pub mod Early

@@ -4,7 +4,7 @@ use Rattle.cc_rv32.specs.Machine.{globals_from}
 use Rattle.cc_simulation.specs.World.{Size}
 use Rattle.cc_emit.specs.Contract.{ObjectLayout, size_words}
 
--- the words of the objects before the one with that number
+-- the number of words of the objects before object `number`
 abbrev pub words_before : (objects : List Size) → (number : ℕ) → ℕ
 words_before [] number = 0
 words_before (o ∷ objects) zero = 0

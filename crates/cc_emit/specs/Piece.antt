@@ -28,7 +28,7 @@ pub record Piece : Type 0 where
 abbrev pub tree_of : Piece → List External
 tree_of p = (source p.unit).externals
 
--- items that do what a function of a unit does, with the unit's objects in order
+-- the items do what the function of the unit does, with the unit's objects in order
 abbrev pub AreOf : Mode → List External → (function frame : ℕ) → List PieceItem → Type 0
 AreOf mode unit f frame items = (meaning : Meaning) → IsMeaning mode unit meaning → (layout : ObjectLayout meaning.objects) → IsInOrder layout → IsPiece meaning layout f frame items
 

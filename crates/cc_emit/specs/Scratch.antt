@@ -1,11 +1,11 @@
--- What x5 and x6 hold between the steps of a straight piece, and how much of an element's address they therefore hold already. An access
+-- What x5 and x6 hold between the steps of straight-line code, and how much of an element's address they therefore hold already. An access
 -- leaves in x6 the upper part of an address, and in x5 the address of the element, minus the lower part of its object's address or minus
 -- the object's distance from x3. So the next access to a nearby object needs no upper part, and the next one to elements with the same
--- number, in any object that is reached the same way, is one instruction.
+-- number, in any object that is reached the same way, takes one instruction.
 --
--- A function sets x3 to the global pointer if its accesses then take fewer instructions, including those that set it: from there an access
--- reaches the first 4 KiB of the globals. An access in a loop counts as eight. Each step says which of these applies to its access, and its
--- size follows from that and nothing else.
+-- A function sets x3 to the global pointer if its accesses then need fewer instructions, including those that set it: from there an access
+-- reaches the first 4 KiB of the globals. An access in a loop counts as eight. Each step says which of these applies to its access, and
+-- nothing else decides the size of the access.
 use Rattle.std.specs.Prelude.{ℕ, ◌*◌, ◌+◌, ◌^◌, Bool, true, false, ◌&&◌, ◌||◌, ◌==◌, nat_le, nat_lt, if◌then◌else◌, Option, Some, None, List, [], ◌∷◌}
 use Rattle.cc_words.specs.declared.operators.Width.{Width}
 use Rattle.cc_words.specs.Widths.{same_width}
@@ -36,12 +36,12 @@ use Rattle.cc_emit.specs.Emission.{access_size, high, known_access_size, known_p
 abbrev pub nothing : Scratch
 nothing = record { upper = None; address = None }
 
--- x5 is the sum of a word and of the distance in bytes of the element from the first one; the word is the upper part of the object's
+-- x5 holds the sum of a word and the distance in bytes of the element from the first one; the word is the upper part of the object's
 -- address times 2^12, or the global pointer
 abbrev pub address_of : Width → (index sum_base : ℕ) → ElementAddress
 address_of width index sum_base = record { width = width; index = index; sum_base = sum_base }
 
--- ---- how much of an address is there
+-- ---- how much of an address the registers hold
 
 abbrev pub is_upper : Option ℕ → (upper : ℕ) → Bool
 is_upper None upper = false
@@ -55,8 +55,8 @@ is_address (Some a) width index sum_base = same_width a.width width && ((a.index
 abbrev pub is_in_reach : (address : ℕ) → Bool
 is_in_reach a = nat_le globals_from a && nat_lt a (globals_from + 4096)
 
--- how much the registers hold of the address of an element whose number is in a register; `sets_pointer` says whether x3 is the global
--- pointer. An address in x5 needs no instruction, so it has priority
+-- how much of the address of an element the registers hold, if the element's number is in a register; `sets_pointer` says whether x3 is the
+-- global pointer. An address in x5 needs no instruction, so it has priority
 abbrev pub known_of : (sets_pointer : Bool) → Scratch → Width → (base index : ℕ) → Remembered
 known_of sets_pointer k width base index =
     if is_address k.address width index (high base * 2 ^ 12) then Element
@@ -64,7 +64,7 @@ known_of sets_pointer k width base index =
     else if is_upper k.upper (high base) then Upper
     else Nothing
 
--- how much the registers hold of a known address
+-- how much of a known address the registers hold
 abbrev pub known_at : (sets_pointer : Bool) → Scratch → (address : ℕ) → Remembered
 known_at sets_pointer k address = if sets_pointer && is_in_reach address then ByPointer else if is_upper k.upper (high address) then Upper else Nothing
 
@@ -80,7 +80,7 @@ remembered base sets_pointer k step = Nothing
 
 -- ---- what the registers hold after a step
 
--- the address is no longer known if the index register has changed
+-- what is known about an element's address after a register has changed: nothing, if that is the index register
 abbrev pub unless_of : (register : ℕ) → Option ElementAddress → Option ElementAddress
 unless_of register None = None
 unless_of register (Some a) = if a.index == register then None else Some a
@@ -118,7 +118,7 @@ upper_behind Nothing upper a = Some (high a)
 upper_behind Upper upper a = Some (high a)
 upper_behind known upper a = upper
 
--- what x5 holds in addition to the element's distance in bytes from the first one
+-- what x5 holds after an access, minus the element's distance in bytes from the first element
 abbrev pub sum_base : Remembered → (base : ℕ) → ℕ
 sum_base ByPointer base = global_pointer
 sum_base ElementByPointer base = global_pointer
@@ -162,7 +162,7 @@ behind_step base sets_pointer (StoreNear width object index word from) k =
 behind_step base sets_pointer (Branch operator nonzero left right to) k = k
 behind_step base sets_pointer (BranchImmediate operator nonzero from word to) k = behind_word_branch (against_zero (word_recipe operator word) from) k
 
--- ---- the steps, each with how much of its address is there
+-- ---- the steps, each with how much is known of the address that it accesses
 
 abbrev pub with_known : (base : ℕ → ℕ) → (sets_pointer : Bool) → Scratch → Step → Addressed
 with_known base sets_pointer k step = record { step = step; known = remembered base sets_pointer k step }
@@ -173,7 +173,7 @@ addressed base sets_pointer k (step ∷ steps) = with_known base sets_pointer k 
 
 -- ---- whether a function gains by x3
 
--- the number of instructions that the access of a step takes, if it has one
+-- the number of instructions that the access of a step needs, if the step has one
 abbrev pub step_access_size : Remembered → Step → ℕ
 step_access_size known (One (Load width object to index)) = access_size known width
 step_access_size known (One (Store width object index from)) = access_size known width
@@ -196,12 +196,12 @@ abbrev pub is_led : Option ℕ → (label : ℕ) → Bool
 is_led None label = false
 is_led (Some to) label = to == label
 
--- one of these steps may lead to the label
+-- whether one of these steps may lead to the label
 abbrev pub lead_to : (label : ℕ) → List Step → Bool
 lead_to label [] = false
 lead_to label (step ∷ steps) = is_led (led_to step) label || lead_to label steps
 
--- one of these steps may lead to one of the labels
+-- whether one of these steps may lead to one of the labels
 abbrev pub lead_back : (labels : List ℕ) → List Step → Bool
 lead_back [] steps = false
 lead_back (label ∷ labels) steps = lead_to label steps || lead_back labels steps
@@ -214,17 +214,17 @@ loop_weight = 8
 abbrev pub weight : (labels : List ℕ) → List Step → ℕ
 weight labels steps = if lead_back labels steps then loop_weight else 1
 
--- the labels before the point after a step
+-- the labels so far, and the step's own label if it is one
 abbrev pub labels_past : Option ℕ → List ℕ → List ℕ
 labels_past None labels = labels
 labels_past (Some label) labels = label ∷ labels
 
--- the number of instructions that the accesses of these steps take, each multiplied by its weight
+-- the number of instructions that the accesses of these steps need, each multiplied by its weight
 abbrev pub accesses_size : (base : ℕ → ℕ) → (sets_pointer : Bool) → Scratch → (labels : List ℕ) → List Step → ℕ
 accesses_size base sets_pointer k labels [] = 0
 accesses_size base sets_pointer k labels (step ∷ steps) =
     weight labels (step ∷ steps) * step_access_size (remembered base sets_pointer k step) step + accesses_size base sets_pointer (behind_step base sets_pointer step k) (labels_past (label_of_step step) labels) steps
 
--- the accesses take fewer instructions with x3, including those that set it
+-- whether the accesses need fewer instructions with x3, including those that set it
 abbrev pub gains : (base : ℕ → ℕ) → List Step → Bool
 gains base steps = nat_lt (pointer_size true + accesses_size base true nothing [] steps) (accesses_size base false nothing [] steps)

@@ -1,9 +1,9 @@
-// A step, together with how much of the address that it accesses is in the machine's registers already. Both decide how many items the step
-// takes.
+// A step, and how much the machine's registers already hold of the address that it accesses. The number of items that the step needs
+// depends on both.
 
 use cc_select::Step;
 
-/// How much of an access's address the registers already hold.
+/// How much the registers already hold of the address of an access.
 #[derive(Clone, Copy)]
 pub(crate) enum Remembered {
     /// Nothing.
@@ -18,7 +18,7 @@ pub(crate) enum Remembered {
     ElementByPointer,
 }
 
-/// A step and, if it reads or writes an element, how much of the element's address the registers already hold.
+/// A step and, if it reads or writes an element, how much the registers already hold of the element's address.
 #[derive(Clone, Copy)]
 pub(crate) struct Addressed {
     pub(crate) step: Step,

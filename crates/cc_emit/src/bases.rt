@@ -70,7 +70,7 @@ fn objects_of(external: &External) -> &[Object]
     }
 }
 
-// Adds the addresses of these objects, which lie from `address` on, and answers the address after them.
+// Adds the addresses of these objects, starting at `address`, and answers the address after them.
 fn add_bases(addresses: &mut Vec<u32>, address: u32, trees: &[Object]) -> Result<u32, AllocError>
     requires { address_behind address (object_trees trees.now) ≤ globals_to }
     ensures bases { OnOk result (addresses.new.items ≡ addresses.old.items ++ bases_from address (object_trees trees.now)) }

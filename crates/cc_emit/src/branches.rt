@@ -1,5 +1,5 @@
-// Branches: one instruction to a near place, else the opposite branch over a jump. A branch on a register and a word has an instruction in
-// front of it, unless a comparison with 0 has the same result.
+// Branches: one instruction if the place is near, else the opposite branch over a jump. A branch on a register and a word has an
+// instruction in front of it, unless a comparison with 0 has the same result.
 
 ghost use Rattle.std.specs.Prelude.{◌≡◌, ◌<◌, ◌≤◌, ◌+◌, ◌++◌, true, length, get_or, OnOk};
 ghost use Rattle.cc_rv32.specs.Fields.{IsBranchOffset};
@@ -28,7 +28,7 @@ fn distance(from: usize, to: usize) -> u32
     }
 }
 
-// Puts a branch to the item with that number.
+// Emits a branch to item `to`.
 fn put_branch(
     items: &mut Vec<PieceItem>,
     near: bool,
@@ -47,7 +47,7 @@ fn put_branch(
     }
 }
 
-// Puts a branch on a register and a word to the item with that number, by the recipe for their comparison.
+// Emits a branch to item `to` on a register and a word, by the recipe for their comparison.
 fn put_word_branch(
     items: &mut Vec<PieceItem>,
     near: bool,
@@ -72,7 +72,7 @@ fn put_word_branch(
     }
 }
 
-/// Puts a branch to a label. `here` is the number of items from the step to the end, with each branch long.
+/// Emits a branch to a label. `here` is the number of items from the step to the end, with each branch in its long form.
 pub(crate) fn put_branch_to(
     items: &mut Vec<PieceItem>,
     places: &Places,
@@ -89,7 +89,8 @@ pub(crate) fn put_branch_to(
     put_branch(items, near, condition, place)
 }
 
-/// Does the same for a branch on a register and a word.
+/// Emits a branch on a register and a word to a label. `here` is the number of items from the step to the end, with each branch in its
+/// long form.
 pub(crate) fn put_word_branch_to(
     items: &mut Vec<PieceItem>,
     places: &Places,

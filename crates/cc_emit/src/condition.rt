@@ -1,5 +1,5 @@
 // Conditions of branches: how the words of two registers compare. A comparison of registers is a condition of its own, so a branch on it
-// needs no truth value in a register. So is a comparison with a word, if a comparison with 0 has the same result.
+// needs no truth value in a register. A comparison with a word is one too, if a comparison with 0 has the same result.
 
 ghost use Rattle.std.specs.Prelude.{◌≡◌, ◌<◌};
 ghost use Rattle.cc_emit.specs.Branches.{opposite, compares, opposed, turned, comparison, immediate_against_zero, operation_on_zero, against_zero};
@@ -19,7 +19,7 @@ pub(crate) struct Condition {
 }
 
 impl Condition {
-    /// The condition that two registers compare like this.
+    /// The condition of a branch with this operation on these two registers.
     pub(crate) fn new(operation: BranchOperation, left: u8, right: u8) -> Condition
         requires left { left < 32 }
         requires right { right < 32 }
@@ -50,7 +50,7 @@ impl Condition {
         if nonzero { self } else { self.opposite() }
     }
 
-    /// The condition under which a comparison of two registers gives 1.
+    /// The condition under which a comparison of two registers yields 1.
     pub(crate) fn of_comparison(operator: Binary, left: u8, right: u8) -> Condition
         requires left { left < 32 }
         requires right { right < 32 }
@@ -66,7 +66,7 @@ impl Condition {
         }
     }
 
-    /// The condition under which a recipe gives a word that is not 0, if it compares the register with 0.
+    /// The condition under which the result of a recipe is not 0, if a comparison of the register with 0 decides that.
     pub(crate) fn against_zero(recipe: WordRecipe, from: u8) -> Option<Condition>
         requires { from < 32 }
         ensures { result ≡ against_zero recipe from }
@@ -87,7 +87,7 @@ impl Condition {
     }
 }
 
-// The operation that is taken exactly if another one is not.
+// The operation of a branch that is taken exactly if one with `operation` is not.
 fn opposite(operation: BranchOperation) -> BranchOperation
     ensures { result ≡ opposite operation }
 {
@@ -101,7 +101,8 @@ fn opposite(operation: BranchOperation) -> BranchOperation
     }
 }
 
-// The condition under which an instruction with an immediate gives a word that is not 0, if it compares its register with 0.
+// The condition under which the result of an instruction with an immediate is not 0, if a comparison of its register with 0 decides
+// that.
 fn immediate_against_zero(operation: ImmediateOperation, part: u32, from: u8) -> Option<Condition>
     requires { from < 32 }
     ensures { result ≡ immediate_against_zero operation part from }
@@ -114,7 +115,8 @@ fn immediate_against_zero(operation: ImmediateOperation, part: u32, from: u8) ->
     }
 }
 
-// The same condition for an instruction on 0 and a register.
+// The condition under which the result of an instruction on 0 and a register is not 0, if a comparison of the register with 0 decides
+// that.
 fn operation_on_zero(operation: RegisterOperation, from: u8) -> Option<Condition>
     requires { from < 32 }
     ensures { result ≡ operation_on_zero operation from }

@@ -1,4 +1,5 @@
-// Constants: one instruction if the word has at most twelve bits or ends in twelve zeros, else two.
+// Constants: one instruction if the word fits in twelve bits, sign-extended, or ends in twelve zero bits,
+// else two.
 
 ghost use Rattle.std.specs.Prelude.{◌≡◌, ◌≤◌, ◌<◌, ◌++◌, OnOk};
 ghost use Rattle.cc_emit.specs.Emission.{const_items, const_size};
@@ -7,7 +8,7 @@ use crate::instructions::{ZERO, add_immediate, high, load_upper, low, put};
 use crate::item::PieceItem;
 use std::alloc::AllocError;
 
-/// The number of items that a constant takes: 1 or 2.
+/// The number of items that a constant needs: 1 or 2.
 pub(crate) fn constant_size(word: u32) -> usize
     ensures answer { result ≡ const_size word }
     ensures few { result ≤ 2 }
@@ -19,7 +20,7 @@ pub(crate) fn constant_size(word: u32) -> usize
     }
 }
 
-/// Puts the items of a constant.
+/// Emits the items of a constant.
 pub(crate) fn put_constant(items: &mut Vec<PieceItem>, to: u8, word: u32) -> Result<(), AllocError>
     requires { to < 32 }
     ensures { OnOk result (items.new.items ≡ items.old.items ++ const_items to word) }

@@ -1,6 +1,6 @@
 // What comes before a function's frame. A function may begin with operations on registers that a call destroys, followed by a test that
 // leads to a label after which the function returns, with at most one such operation before the return. In such a function all of this
-// comes before the frame is made, with the test the other way round: it jumps over the return to the rest of the function.
+// comes before the frame is made, with the test reversed: the reversed test jumps over the return to the rest of the function.
 
 ghost use Rattle.std.specs.Prelude.{◌≡◌, ◌≤◌, ◌+◌, ◌∷◌, ◌++◌, [], List, IfOk, IfSome, drop, take, length, option_map};
 ghost use Rattle.cc_ltl.specs.Registers.{most_slots};
@@ -27,7 +27,7 @@ pub(crate) struct Ahead {
     pub(crate) taken: usize,
 }
 
-/// A test the other way round, and where the test leads.
+/// A reversed test, and the label to which the original test leads.
 #[derive(Clone, Copy)]
 pub(crate) struct Fork {
     to: u32,
@@ -41,7 +41,7 @@ fn is_lost(register: u8) -> bool
     register == 7 || (10 <= register && register <= 17) || 28 <= register
 }
 
-// The register that an operation on registers writes.
+// The register that a step writes, if the step is an operation on registers.
 fn written_by(step: &Step) -> Option<u8>
     ensures { result ≡ written_by step.now }
 {
@@ -69,7 +69,7 @@ fn is_light(step: &Step) -> bool
     }
 }
 
-// The step as a test the other way round, if it is a test.
+// If the step is a test: the reversed test, and the label to which the step leads.
 fn fork_of(step: &Step) -> Option<Fork>
     ensures { result ≡ fork_of step.now }
 {
@@ -149,7 +149,7 @@ fn place_of(code: &[Step], label: u32) -> usize
     at
 }
 
-// What comes between a place and the return after it: at most one light step.
+// What comes between a place and the return after it, if that is at most one light step.
 fn last_of(code: &[Step], at: usize) -> Option<Option<Step>>
     ensures { option_map listed result ≡ last_of (drop at code.now) }
 {
@@ -169,7 +169,7 @@ fn last_of(code: &[Step], at: usize) -> Option<Option<Step>>
     }
 }
 
-// What comes between a label and the return after it: at most one light step.
+// What comes between a label and the return after it, if that is at most one light step.
 fn ending(code: &[Step], label: u32) -> Option<Option<Step>>
     ensures { option_map listed result ≡ ending (place code.now label) }
 {
@@ -181,7 +181,7 @@ fn ending(code: &[Step], label: u32) -> Option<Option<Step>>
     }
 }
 
-// The number of light steps at the beginning.
+// The number of light steps with which the code begins.
 fn light_count(code: &[Step]) -> usize
     ensures within { result ≤ length code.now }
     ensures light { (all : List Shown) → early_from all code.now ≡ option_map (with_before (take result code.now)) (early_test all (drop result code.now)) }
@@ -196,7 +196,7 @@ fn light_count(code: &[Step]) -> usize
     count
 }
 
-// The steps before the frame: those of `before`, the test the other way round, the return and the label.
+// The steps before the frame: those of `before`, the reversed test, the return and the label.
 fn head_of(alloc: Global, before: &[Step], fork: Fork) -> Result<Vec<Step>, AllocError>
     ensures { IfOk result (λ head. head.items ≡ before.now ++ (fork.turned ∷ One Return ∷ One (Label fork.to) ∷ [])) }
 {
@@ -207,7 +207,7 @@ fn head_of(alloc: Global, before: &[Step], fork: Fork) -> Result<Vec<Step>, Allo
     Ok(head)
 }
 
-// The same with one more step before the return.
+// The steps before the frame: those of `before`, the reversed test, one more step, the return and the label.
 fn head_with(
     alloc: Global,
     before: &[Step],
@@ -253,7 +253,7 @@ fn found(alloc: Global, code: &[Step]) -> Result<Option<Ahead>, AllocError>
     }
 }
 
-/// What comes before the frame of a function with this many slots, if it has a frame and anything comes before it.
+/// What comes before the frame of a function with `slots` slots, if it has a frame and anything comes before it.
 pub(crate) fn before_frame(
     alloc: Global,
     slots: u16,

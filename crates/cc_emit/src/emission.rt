@@ -54,7 +54,7 @@ fn move_word(between: Move) -> Instr
     }
 }
 
-// Puts the upper part of an address into x6, if it is needed and not there yet.
+// Emits the instruction that sets x6 to the upper part of an address, if the part is needed and x6 does not hold it yet.
 fn put_upper(items: &mut Vec<PieceItem>, known: Remembered, address: u32) -> Result<(), AllocError>
     ensures { OnOk result (items.new.items ≡ items.old.items ++ upper_items known address) }
 {
@@ -81,7 +81,7 @@ fn base_register(known: Remembered) -> u8
     }
 }
 
-// The access's offset from that register, or from what x5 holds of an element's address: the object's part of the address.
+// The offset of an access from the base register, or from what x5 holds of an element's address: the object's part of the address.
 fn part_of(known: Remembered, address: u32) -> u32
     ensures value { result ≡ part_of known address }
     ensures fits { IsImmediate result }
@@ -92,8 +92,8 @@ fn part_of(known: Remembered, address: u32) -> u32
     }
 }
 
-// Puts an access to an element whose distance in bytes from the first one is in a register: x5 becomes the element's address, minus the
-// object's part of it.
+// Emits an access to an element whose distance in bytes from the first element is in the register `distance`: x5 becomes the element's
+// address, minus the object's part of the address.
 fn put_based(
     items: &mut Vec<PieceItem>,
     known: Remembered,
@@ -117,7 +117,7 @@ fn put_based(
     put(items, access)
 }
 
-// Puts an access to the element whose number is in a register.
+// Emits an access to the element whose number is in the register `index`.
 fn put_indexed(
     items: &mut Vec<PieceItem>,
     known: Remembered,
@@ -139,7 +139,7 @@ fn put_indexed(
     }
 }
 
-// Puts a load of an element of an object whose address is `base`.
+// Emits a load of an element of an object whose address is `base`.
 fn put_load(
     items: &mut Vec<PieceItem>,
     known: Remembered,
@@ -156,7 +156,7 @@ fn put_load(
     put_indexed(items, known, width, base, index, access)
 }
 
-// Puts a store into an element of an object whose address is `base`.
+// Emits a store into an element of an object whose address is `base`.
 fn put_store(
     items: &mut Vec<PieceItem>,
     known: Remembered,
@@ -173,7 +173,7 @@ fn put_store(
     put_indexed(items, known, width, base, index, access)
 }
 
-// Puts a load of the element with that number.
+// Emits a load of element `number` of an object whose address is `base`.
 fn put_load_at(
     items: &mut Vec<PieceItem>,
     known: Remembered,
@@ -191,7 +191,7 @@ fn put_load_at(
     put(items, access)
 }
 
-// Puts a store into the element with that number.
+// Emits a store into element `number` of an object whose address is `base`.
 fn put_store_at(
     items: &mut Vec<PieceItem>,
     known: Remembered,
@@ -209,7 +209,7 @@ fn put_store_at(
     put(items, access)
 }
 
-// Puts a call of one of the machine's services.
+// Emits a call of one of the machine's services.
 fn put_service(items: &mut Vec<PieceItem>, number: u32) -> Result<(), AllocError>
     requires { number < 2048 }
     ensures { OnOk result (items.new.items ≡ items.old.items ++ service number) }
@@ -218,8 +218,8 @@ fn put_service(items: &mut Vec<PieceItem>, number: u32) -> Result<(), AllocError
     put(items, serve())
 }
 
-// Puts the items of one item of Linear. `known` is how much of its address the registers hold, `here` the number of items from it to the
-// end, with each branch long; `bases` has the objects' addresses.
+// Emits the items of one item of Linear. `known` is how much the registers hold of the address that the item accesses, `here` the number of
+// items from this one to the end, with each branch in its long form; `bases` has the objects' addresses.
 fn put_items_of_one(
     items: &mut Vec<PieceItem>,
     frame: &Frame,
@@ -289,8 +289,8 @@ fn put_items_of_one(
     }
 }
 
-// Puts the items of a step. `known` is how much of its address the registers hold, `here` the number of items from it to the end, with each
-// branch long; `bases` has the objects' addresses.
+// Emits the items of a step. `known` is how much the registers hold of the address that the step accesses, `here` the number of items from
+// the step to the end, with each branch in its long form; `bases` has the objects' addresses.
 fn put_items_of(
     items: &mut Vec<PieceItem>,
     frame: &Frame,
@@ -369,7 +369,7 @@ fn put_items_of(
     }
 }
 
-// Puts the items that follow a function's prologue.
+// Emits the items that follow a function's prologue.
 fn put_code(
     items: &mut Vec<PieceItem>,
     frame: &Frame,
@@ -391,8 +391,8 @@ fn put_code(
     Ok(())
 }
 
-// The items of the code of a function with this many slots, with all of it in the frame. `bases` has the objects' addresses, and the labels
-// are below `count`. Err: memory ran out.
+// The items of the code of a function with `slots` slots, with all of the code in the frame. `bases` has the objects' addresses, and each
+// label is below `count`. Err: memory ran out.
 fn whole_items(
     alloc: Global,
     slots: u16,
@@ -415,7 +415,7 @@ fn whole_items(
     Ok(items)
 }
 
-// An item of code, adjusted for `before` other items that come before it. No memory holds so many items that the sum overflows.
+// An item of code, adjusted for the `before` items that are put in front of it. No memory holds enough items for the sum to overflow.
 fn shifted(before: usize, item: PieceItem) -> Result<PieceItem, AllocError>
     ensures { IfOk result (λ moved. moved ≡ shifted before item) }
 {
@@ -428,7 +428,7 @@ fn shifted(before: usize, item: PieceItem) -> Result<PieceItem, AllocError>
     }
 }
 
-// Puts the items of some code after others.
+// Emits the items of `rest`, adjusted for the items before them.
 fn put_behind(items: &mut Vec<PieceItem>, rest: &[PieceItem]) -> Result<(), AllocError>
     ensures { OnOk result (items.new.items ≡ behind_items items.old.items rest.now) }
 {
@@ -440,7 +440,7 @@ fn put_behind(items: &mut Vec<PieceItem>, rest: &[PieceItem]) -> Result<(), Allo
     Ok(())
 }
 
-/// The items of the code of a function with this many slots; `bases` has the objects' addresses. Err: memory ran out.
+/// The items of the code of a function with `slots` slots; `bases` has the objects' addresses. Err: memory ran out.
 pub(crate) fn function_items(
     alloc: Global,
     slots: u16,

@@ -1,4 +1,4 @@
-// The pass: the piece of a pair of selected steps.
+// The pass: it makes the piece of a pair of selected steps.
 
 ghost use Rattle.std.specs.Prelude.{◌≡◌, IfOk};
 ghost use Rattle.cc_emit.specs.Function.{pair_frame, pair_items};
@@ -14,10 +14,11 @@ use std::sync::Arc;
 /// At most this many steps are emitted. No memory holds more.
 const MOST_STEPS: usize = 1 << 55;
 
-/// Makes the items of the code of a unit's function: those of `specs/Function.antt`, at most 15 for a step. The answer's type keeps that
-/// the machine does with them what the function does. The answer also has the LTL, and the number of bytes of the frame.
+/// Makes the items of the code of a unit's function: those that `specs/Function.antt` defines, at most 15 for each step, and at most
+/// 16 in the prologue. The answer's type keeps the fact that these items make the machine do what the function does. The answer also
+/// has the LTL, and the size of the frame in bytes.
 ///
-/// This fails only if memory runs out (40); the pair is gone then.
+/// This fails only if memory runs out (40); the pair is then lost.
 pub fn emit(alloc: Global, pair: SelectedPair) -> Result<Piece, AllocError>
     ensures mode { IfOk result (λ piece. piece.mode ≡ pair.mode) }
     ensures unit { IfOk result (λ piece. piece.unit ≡ pair.unit) }

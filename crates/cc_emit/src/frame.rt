@@ -23,7 +23,8 @@ const KEPT: [u8; 12] = [8, 9, 18, 19, 20, 21, 22, 23, 24, 25, 26, 27];
 /// A function saves at most this many registers: those of `KEPT`, and `x1`.
 const MOST_SAVED: usize = 13;
 
-/// The frame of a function: whether it sets `x3`, at most 495 slots, and at most 13 registers. Contracts see all three.
+/// The frame of a function: whether the function sets `x3`, at most 495 slots, and at most 13 saved registers.
+/// Contracts see all three.
 #[derive(Drop)]
 pub(crate) struct Frame {
     sets_pointer: bool,
@@ -72,7 +73,7 @@ impl Frame {
         })
     }
 
-    /// The registers that the function saves, in the order of their places.
+    /// The registers that the function saves, in the order of their places in the frame.
     pub(crate) fn saved(&self) -> &[u8]
         ensures answer { result.now ≡ self.now.saved }
         ensures few { length self.now.saved ≤ 13 }
@@ -105,7 +106,7 @@ impl Frame {
         pointer_size(self.sets_pointer) + (self.moves() + self.saved.len())
     }
 
-    /// Puts the prologue: `x3` is set, the stack pointer goes down by the frame's size, and the registers are saved.
+    /// Emits the prologue: `x3` is set, the stack pointer goes down by the frame's size, and the registers are saved.
     pub(crate) fn put_prologue(&self, items: &mut Vec<PieceItem>) -> Result<(), AllocError>
         ensures { OnOk result (items.new.items ≡ items.old.items ++ prologue self.now) }
     {
@@ -120,7 +121,7 @@ impl Frame {
         put_saving(items, 4 * u32::from(self.slots), self.saved.as_slice())
     }
 
-    /// Puts the epilogue: the registers are restored, the stack pointer goes up, and the function returns.
+    /// Emits the epilogue: the registers are restored, the stack pointer goes up, and the function returns.
     pub(crate) fn put_epilogue(&self, items: &mut Vec<PieceItem>) -> Result<(), AllocError>
         ensures { OnOk result (items.new.items ≡ items.old.items ++ epilogue self.now) }
     {
@@ -133,7 +134,7 @@ impl Frame {
     }
 }
 
-/// The number of bytes of the frame of a function with these slots and steps. Err: memory ran out.
+/// The size in bytes of the frame of a function with these slots and steps. Err: memory ran out.
 pub(crate) fn frame_bytes(alloc: Global, slots: u16, code: &[Step]) -> Result<u32, AllocError>
     requires { slots ≤ most_slots }
     ensures { IfOk result (λ bytes. bytes ≡ frame_size (frame_of false slots code.now)) }
@@ -193,7 +194,7 @@ fn is_call(step: &Step) -> bool
     matches!(step, Step::One(LinearItem::Call { .. }))
 }
 
-// For each register, whether steps write it. A call that destroys it does not count.
+// For each register, whether the steps write it. A call that destroys the register does not count.
 fn written(code: &[Step]) -> [bool; 32]
     ensures { (r : ℕ) → r < 32 → get_or result r false ≡ is_written code.now r }
 {
@@ -206,7 +207,7 @@ fn written(code: &[Step]) -> [bool; 32]
     written
 }
 
-// The register that a step writes, if there is one. What a call destroys does not count.
+// The register that a step writes, if any. Registers that a call destroys do not count.
 fn target(step: &Step) -> Option<u8>
     ensures { MatchOption result ((r : ℕ) → writes r step.now ≡ false) (λ to. (to < 32) × ((r : ℕ) → writes r step.now ≡ (to == r))) }
 {
@@ -219,7 +220,7 @@ fn target(step: &Step) -> Option<u8>
     }
 }
 
-// The register that an item of Linear writes, in the same sense.
+// The register that an item of Linear writes, if any. Registers that a call destroys do not count.
 fn item_target(item: &LinearItem) -> Option<u8>
     ensures { MatchOption result ((r : ℕ) → item_writes r item.now ≡ false) (λ to. (to < 32) × ((r : ℕ) → item_writes r item.now ≡ (to == r))) }
 {

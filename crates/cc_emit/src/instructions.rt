@@ -21,12 +21,12 @@ use cc_rv32::operand::{BranchOffset, Immediate, Register, ShiftCount, UpperImmed
 use cc_words::Width;
 use std::alloc::AllocError;
 
-/// The word in `x3` in a function that sets it: an access reaches the first 4 KiB of the globals from there.
+/// The word in `x3` in a function that sets it. From `x3`, an access reaches the first 4 KiB of the globals.
 pub(crate) const GLOBAL_POINTER: u32 = GLOBALS_FROM + 2048;
 
 /// `x0`, which holds 0.
 pub(crate) const ZERO: u8 = 0;
-/// `x1`, in which a call leaves the address after it.
+/// `x1`, in which a call leaves its return address.
 pub(crate) const RETURN_ADDRESS: u8 = 1;
 /// `x2`, the address of the frame.
 pub(crate) const STACK: u8 = 2;
@@ -39,7 +39,7 @@ pub(crate) const OTHER_SCRATCH: u8 = 6;
 /// `x17`, in which the machine finds the number of a service.
 pub(crate) const SERVICE: u8 = 17;
 
-/// Puts an item after the others.
+/// Appends an item.
 pub(crate) fn put_item(items: &mut Vec<PieceItem>, item: PieceItem) -> Result<(), AllocError>
     ensures { OnOk result (items.new.items ≡ items.old.items ++ item ∷ []) }
 {
@@ -52,7 +52,7 @@ pub(crate) fn put_item(items: &mut Vec<PieceItem>, item: PieceItem) -> Result<()
     }
 }
 
-/// Puts an instruction after the others.
+/// Appends an instruction.
 pub(crate) fn put(items: &mut Vec<PieceItem>, instr: Instr) -> Result<(), AllocError>
     ensures { OnOk result (items.new.items ≡ items.old.items ++ Plain instr ∷ []) }
 {
@@ -181,7 +181,7 @@ pub(crate) fn store(at: u8, from: u8, offset: u32) -> Instr
     store_element(Width::Word, at, from, offset)
 }
 
-/// A branch that is taken on a condition.
+/// The branch that is taken if the condition holds.
 pub(crate) fn branch(condition: Condition, offset: u32) -> Instr
     requires { IsBranchOffset offset }
     ensures { result ≡ Branch condition.operation condition.left condition.right offset }
@@ -206,7 +206,7 @@ pub(crate) fn load_upper(to: u8, field: u32) -> Instr
     }
 }
 
-/// The instruction that goes back to where the function was called.
+/// The instruction that returns to the caller.
 pub(crate) fn go_back() -> Instr
     ensures { result ≡ Jalr 0 1 0 }
 {

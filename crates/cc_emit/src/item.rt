@@ -7,8 +7,8 @@ use cc_rv32::instr::Instr;
 pub enum PieceItem {
     /// An instruction.
     Plain(Instr),
-    /// A call of the function with that number, in the order of definitions.
+    /// A call of the function with this number, in the order of definitions.
     Call(u32),
-    /// A jump to the item with that number in the same piece, counted from 0.
+    /// A jump to the item with this number in the same piece, counted from 0.
     Go(usize),
 }

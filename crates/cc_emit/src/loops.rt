@@ -1,5 +1,5 @@
-// Loops: a step is in a loop if it is between a label and a later step that leads back to the label. For each label the code notes how far
-// the last such step is from the beginning, so the first steps need not be looked at again.
+// Loops: a step is in a loop if it is between a label and a later step that leads back to the label. For each label the code notes the
+// position of the last such step, so it need not search the steps again.
 
 ghost use Rattle.std.specs.Prelude.{◌≡◌, ◌<◌, ℕ, length, get_or, IfOk};
 ghost use Rattle.cc_emit.specs.Emission.{label_of_step};
@@ -27,7 +27,7 @@ fn led_to(step: &Step) -> Option<u32>
     }
 }
 
-// If a step leads to a label to which no later step leads, notes it; `at` is the number of steps up to and including this one.
+// If a step leads to a label to which no later step leads, notes `at` for the label: the number of steps up to and including this one.
 fn note(last: &mut Vec<usize>, step: &Step, at: usize)
     ensures long { length last.new.items ≡ length last.old.items }
     ensures each { (label : ℕ) → label < length last.old.items → get_or last.new.items label 0 ≡ noted (is_led (led_to step.now) label) (get_or last.old.items label 0) at }
@@ -64,7 +64,8 @@ fn later(a: usize, b: usize) -> usize
     if a < b { b } else { a }
 }
 
-/// The number of steps up to the last one that leads back to this step, if it is a label, or to a label before it.
+/// The number of steps up to the last one that leads back to one of the labels up to and including `step`; `reach` is this number for
+/// the labels before `step`.
 pub(crate) fn reach_past(last: &[usize], reach: usize, step: &Step) -> usize
     ensures { result ≡ reach_past last.now (label_of_step step.now) reach }
 {

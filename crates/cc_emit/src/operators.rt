@@ -27,7 +27,7 @@ pub(crate) fn unary(operator: Unary, to: u8, from: u8) -> Instr
     }
 }
 
-/// Puts the items of an operator on two words.
+/// Emits the items of an operator on two words.
 pub(crate) fn put_binary(
     items: &mut Vec<PieceItem>,
     operator: Binary,
@@ -57,7 +57,7 @@ pub(crate) fn put_binary(
     }
 }
 
-/// Puts the items of an operator on a register and a word.
+/// Emits the items of an operator on a register and a word.
 pub(crate) fn put_immediate(
     items: &mut Vec<PieceItem>,
     operator: WordOperator,
@@ -85,7 +85,7 @@ pub(crate) fn put_immediate(
     }
 }
 
-// The instruction that asks whether the scratch register's word is 0.
+// The instruction that tests whether the scratch register's word is 0.
 fn is_zero(to: u8) -> Instr
     requires { to < 32 }
     ensures { result ≡ OpImm Sltiu to 5 1 }
@@ -93,7 +93,7 @@ fn is_zero(to: u8) -> Instr
     operate_immediate(ImmediateOperation::Sltiu, to, SCRATCH, 1)
 }
 
-// The instruction that asks whether the scratch register's word is not 0.
+// The instruction that tests whether the scratch register's word is not 0.
 fn is_nonzero(to: u8) -> Instr
     requires { to < 32 }
     ensures { result ≡ Op Sltu to 0 5 }

@@ -16,8 +16,8 @@ use std::marker::Model;
 use std::sync::Arc;
 
 /// The code of one function of a typed unit, and the LTL from which it was made. Contracts see the unit, the function's number, the LTL and
-/// the items. The type carries the fact that the machine does with the items what the function does, wherever they are, so no piece exists
-/// for which this is false.
+/// the items. The type carries the fact that the items make the machine do what the function does, wherever they are placed. No piece
+/// exists for which this is false.
 pub struct Piece {
     mode: Mode,
     unit: Arc<TypedUnit>,
@@ -27,7 +27,7 @@ pub struct Piece {
     items: Vec<PieceItem>,
 }
 
-// This is written by hand, so that crates above call it and need not prove again how each part is dropped.
+// Written by hand, so that crates above call this `drop` instead of proving again how each part is dropped.
 impl Drop for Piece {
     fn drop(self) {
         let Piece {
@@ -121,7 +121,7 @@ impl Piece {
     }
 
     /// The items of the code, one for each word. Each call is of a function of the unit, and each jump goes to an item of the piece or to
-    /// its end. Wherever the items are, the machine does with them what the function does.
+    /// its end. Wherever the items are placed, they make the machine do what the function does.
     pub fn items(&self) -> &[PieceItem]
         ensures items { result.now ≡ self.now.items }
         ensures piece { IsPieceOfUnit self.now }
@@ -129,7 +129,7 @@ impl Piece {
         self.items.as_slice()
     }
 
-    /// Drops the piece and gives back its unit.
+    /// Drops the piece and returns its unit.
     pub fn into_unit(self) -> Arc<TypedUnit>
         ensures answer { arc_value result ≡ self.unit }
     {

@@ -1,4 +1,5 @@
-// How operators become instructions: each takes one, or one followed by a second that asks whether the first one's result is 0 or not.
+// How operators become instructions: each becomes one instruction, or one followed by another that tests whether its result is 0, or
+// whether it is not 0.
 
 ghost use Rattle.std.specs.Prelude.{◌≡◌, ◌<◌, ◌≤◌};
 ghost use Rattle.cc_emit.specs.Branches.{asked_of};
@@ -18,11 +19,11 @@ use cc_words::{Binary, add, sub};
 pub(crate) enum Recipe {
     /// One instruction.
     Direct(RegisterOperation),
-    /// Asking whether the word that an instruction gives is 0.
+    /// An instruction, then one that tests whether its result is 0.
     ZeroOf(RegisterOperation),
-    /// The same, with the operands exchanged.
+    /// An instruction with the operands exchanged, then one that tests whether its result is 0.
     ZeroOfExchanged(RegisterOperation),
-    /// Asking whether that word is not 0.
+    /// An instruction, then one that tests whether its result is not 0.
     NonzeroOf(RegisterOperation),
 }
 
@@ -55,7 +56,7 @@ impl Recipe {
         }
     }
 
-    /// The number of items that the recipe takes.
+    /// The number of items that the recipe needs.
     pub(crate) fn size(self) -> usize
         ensures answer { result ≡ recipe_size self }
         ensures few { result ≤ 2 }
@@ -76,9 +77,9 @@ pub(crate) enum WordRecipe {
     ShiftBy(ShiftOperation, u8),
     /// One instruction on 0 and the register.
     OnZero(RegisterOperation),
-    /// Asking whether the word that an instruction with an immediate gives is 0.
+    /// An instruction with an immediate, then one that tests whether its result is 0.
     ZeroOfImmediate(ImmediateOperation, u32),
-    /// Asking whether that word is not 0.
+    /// An instruction with an immediate, then one that tests whether its result is not 0.
     NonzeroOfImmediate(ImmediateOperation, u32),
 }
 
@@ -119,7 +120,7 @@ impl WordRecipe {
         }
     }
 
-    /// The number of items that the recipe takes.
+    /// The number of items that the recipe needs.
     pub(crate) fn size(self) -> usize
         ensures answer { result ≡ word_recipe_size self }
         ensures few { result ≤ 2 }
@@ -131,7 +132,7 @@ impl WordRecipe {
         }
     }
 
-    /// The recipe's first instruction, with its result in a register.
+    /// The recipe's first instruction, with its result in register `to`.
     pub(crate) fn first(self, to: u8, from: u8) -> Instr
         requires room { HasRoom self }
         requires to { to < 32 }
@@ -149,7 +150,7 @@ impl WordRecipe {
         }
     }
 
-    /// How the first instruction's word compares with 0 if the recipe gives a word that is not 0.
+    /// The comparison with 0 that holds for the first instruction's result exactly if the recipe's result is not 0.
     pub(crate) fn asked(self) -> BranchOperation
         ensures { result ≡ asked_of self }
     {
@@ -160,7 +161,7 @@ impl WordRecipe {
     }
 }
 
-// The recipe that asks whether a register's word is this one. For 0 it asks whether the word is less than 1, as unsigned.
+// The recipe that tests whether a register holds `word`. If `word` is 0, it tests whether the register holds less than 1, unsigned.
 fn equal_to(word: u32) -> WordRecipe
     ensures answer { result ≡ word_recipe Eq word }
     ensures fits { HasRoom result }
@@ -172,7 +173,8 @@ fn equal_to(word: u32) -> WordRecipe
     }
 }
 
-// The recipe that asks whether a register's word is another one. For 0 it asks whether the word is more than 0, as unsigned.
+// The recipe that tests whether a register holds a word other than `word`. If `word` is 0, it tests whether the register holds more
+// than 0, unsigned.
 fn unequal_to(word: u32) -> WordRecipe
     ensures answer { result ≡ word_recipe Ne word }
     ensures fits { HasRoom result }

@@ -1,8 +1,8 @@
-// What the scratch registers hold within a straight piece. An access leaves in `x6` the upper part of an address, and in `x5` the address
+// What the scratch registers hold within straight-line code. An access leaves in `x6` the upper part of an address, and in `x5` the address
 // of an element, minus the lower part of its object's address or minus the object's distance from `x3`. Later accesses use what they need
-// of it. What they hold is forgotten at a label and at a call; the element's address is also forgotten if its index register is written or
-// `x5` is used. What is reached from `x3`, the global pointer, needs no upper part. A function sets `x3` if its accesses then take fewer
-// instructions, including those that set it; accesses in loops count eight times.
+// of these. What the registers hold is forgotten at a label and at a call; the element's address is also forgotten if its index register is
+// written or `x5` is used. An access from `x3`, the global pointer, needs no upper part. A function sets `x3` if its accesses then need
+// fewer instructions, including those that set it; accesses in loops count eight times.
 
 ghost use Rattle.std.specs.Prelude.{◌≡◌, ◌≤◌, ◌<◌, ◌^◌, Bool, [], length, if◌then◌else◌, IfOk};
 ghost use Rattle.std.specs.List.{AllByRecursion};
@@ -39,7 +39,8 @@ pub(crate) struct ElementAddress {
     width: Width,
     /// The register that holds the element's number.
     index: u8,
-    /// The other part of the address: the upper part of the object's address, times 4,096, or the global pointer.
+    /// The part of the address that does not depend on the index: the upper part of the object's address, times 4,096, or the global
+    /// pointer.
     sum_base: u32,
 }
 
@@ -71,7 +72,7 @@ impl Scratch {
         }
     }
 
-    // Whether x5 holds the sum of `sum_base` and of the distance in bytes of this element from the first one.
+    // Whether x5 holds the sum of `sum_base` and the distance in bytes of this element from the first one.
     fn is_address(&self, width: Width, index: u8, sum_base: u32) -> bool
         ensures { result ≡ is_address self.now.address width index sum_base }
     {
@@ -83,8 +84,8 @@ impl Scratch {
         }
     }
 
-    // How much the registers hold of the address of an element whose number is in a register; `sets_pointer` says whether x3 is the global
-    // pointer.
+    // How much of the address of an element the registers hold, if the element's number is in a register; `sets_pointer` says whether x3 is
+    // the global pointer.
     fn known_of(&self, sets_pointer: bool, width: Width, base: u32, index: u8) -> Remembered
         ensures { result ≡ known_of sets_pointer self.now width base index }
     {
@@ -103,7 +104,7 @@ impl Scratch {
         }
     }
 
-    // How much the registers hold of an address.
+    // How much of an address the registers hold.
     fn known_at(&self, sets_pointer: bool, address: u32) -> Remembered
         ensures { result ≡ known_at sets_pointer self.now address }
     {
@@ -116,7 +117,7 @@ impl Scratch {
         }
     }
 
-    // How much the registers hold of the address of the element that an item of Linear reads or writes.
+    // How much the registers hold of the address that an item of Linear reads or writes.
     fn remembered_of_one(&self, bases: &Bases, sets_pointer: bool, item: LinearItem) -> Remembered
         ensures { result ≡ remembered (base_in bases.now) sets_pointer self.now (One item) }
     {
@@ -137,7 +138,7 @@ impl Scratch {
         }
     }
 
-    // How much the registers hold of the address of a step's element.
+    // How much the registers hold of the address that a step reads or writes.
     fn remembered(&self, bases: &Bases, sets_pointer: bool, step: Step) -> Remembered
         ensures { result ≡ remembered (base_in bases.now) sets_pointer self.now step }
     {
@@ -389,7 +390,7 @@ fn is_in_reach(address: u32) -> bool
     GLOBALS_FROM <= address && address < GLOBALS_FROM + 4096
 }
 
-// What x5 holds after an access in addition to the element's distance in bytes from the first one.
+// What x5 holds after an access, minus the element's distance in bytes from the first element.
 fn sum_base(known: Remembered, base: u32) -> u32
     ensures { result ≡ sum_base known base }
 {
@@ -399,7 +400,7 @@ fn sum_base(known: Remembered, base: u32) -> u32
     }
 }
 
-// The number of instructions that the access of a step takes, if it has one: at most 4.
+// The number of instructions that the access of a step needs: at most 4, and 0 if the step has no access.
 fn step_access_size(known: Remembered, step: Step) -> usize
     ensures answer { result ≡ step_access_size known step }
     ensures few { result ≤ 4 }
@@ -424,16 +425,17 @@ fn weight(in_loop: bool) -> usize
     if in_loop { LOOP_WEIGHT } else { 1 }
 }
 
-// The steps of a function, each with how much of its address the registers hold, and the number of instructions that their accesses take
-// together, each multiplied by its weight.
+// The steps of a function, each with how much the registers hold of the address that it accesses, and the number of instructions that their
+// accesses need together, each multiplied by its weight.
 #[derive(Drop)]
 struct Walked {
     steps: Vec<Addressed>,
     accesses: usize,
 }
 
-// The steps of a function, each with how much of its address the registers hold; `bases` has the objects' addresses, `sets_pointer` says
-// whether `x3` is the global pointer, `last` says which steps are in loops. Their accesses take at most 2^61 instructions.
+// The steps of a function, each with how much the registers hold of the address that it accesses; `bases` has the objects' addresses,
+// `sets_pointer` says whether `x3` is the global pointer, `last` says which steps are in loops. Their accesses need at most 2^61
+// instructions.
 fn walk(
     alloc: Global,
     bases: &Bases,
@@ -464,9 +466,9 @@ fn walk(
     Ok(Walked { steps, accesses })
 }
 
-/// The steps of a function, each with how much of its address the registers hold, and whether the function sets `x3` to the global pointer.
-/// It does if its accesses then take fewer instructions, including the two that set `x3`; accesses in loops count eight times. `bases` has
-/// the objects' addresses; the labels are below `count`.
+/// The steps of a function, each with how much the registers hold of the address that it accesses, and whether the function sets `x3` to
+/// the global pointer. The function sets `x3` if its accesses then need fewer instructions, including the two that set `x3`; accesses in
+/// loops count eight times. `bases` has the objects' addresses; the labels are below `count`.
 pub(crate) fn addressed(
     alloc: Global,
     bases: &Bases,

@@ -1,6 +1,6 @@
-// The places of labels. A place is given as the number of items from there to the end, so a table of labels is filled from the back, and
-// each sum is known when it is needed. A first table takes each branch as long; it decides which branches are near. A second one has the
-// places with each branch at its final length.
+// The places of labels. A place is given as the number of items from the place to the end, so a table of labels is filled from the back,
+// and each sum is known when it is needed. The first table counts each branch in its long form, and decides which branches are near. The
+// second has the places with each branch at its final length.
 
 ghost use Rattle.std.specs.Prelude.{◌≡◌, ◌≤◌, ◌<◌, ◌^◌, length, get_or, ℕ, List, [], ◌∷◌, false, IfOk};
 ghost use Rattle.std.specs.List.{AllByRecursion};
@@ -20,8 +20,9 @@ use cc_select::Step;
 use cc_words::Width;
 use std::alloc::{AllocError, Global};
 
-/// The places of a function's labels, as the number of items from there to the end: with each branch long, and with each branch at its
-/// final length. Also the number of items after the prologue with each branch long, and the number of items of the function's code.
+/// The places of a function's labels, as the number of items from each label to the end: with each branch in its long form, and with each
+/// branch at its final length. Also the number of items after the prologue with each branch in its long form, and the number of items of
+/// the function's code.
 #[derive(Drop)]
 pub(crate) struct Places {
     first: Vec<usize>,
@@ -54,7 +55,7 @@ impl Places {
         })
     }
 
-    /// The number of items after the prologue, with each branch long.
+    /// The number of items after the prologue, with each branch in its long form.
     pub(crate) fn long(&self) -> usize
         ensures { result ≡ self.now.long }
     {
@@ -68,7 +69,7 @@ impl Places {
         self.end
     }
 
-    /// Whether a branch to a label is near; `here` is the number of items from the branch to the end, with each branch long.
+    /// Whether a branch to a label is near; `here` is the number of items from the branch to the end, with each branch in its long form.
     pub(crate) fn is_near(&self, here: usize, label: u32) -> bool
         ensures { result ≡ near_behind self.now.first.items here label }
     {
@@ -106,7 +107,7 @@ fn above_label(step: &Step) -> usize
     }
 }
 
-// Whether a branch reaches one place from another and from the place after that: they are at most 1,023 items apart.
+// Whether two places are at most 1,023 items apart, so that a branch at `from`, or at the place after it, reaches `to`.
 fn is_close(from: usize, to: usize) -> bool
     ensures { result ≡ is_close from to }
 {
@@ -117,7 +118,8 @@ fn is_close(from: usize, to: usize) -> bool
     }
 }
 
-// Whether a branch is near, if the first table knows its label; `here` is the number of items from the branch to the end.
+// Whether a branch to `label` is near; false if the first table does not have the label. `here` is the number of items from the branch to
+// the end.
 fn is_near(first: &[usize], here: usize, label: u32) -> bool
     ensures { result ≡ near_behind first.now here label }
 {
@@ -155,7 +157,7 @@ pub(crate) fn known_access_size(known: Remembered) -> usize
     }
 }
 
-// The number of items that an item of Linear takes if each branch is long: at most 15.
+// The number of items that an item of Linear needs if each branch is long: at most 15.
 fn long_size_of_one(frame: &Frame, known: Remembered, item: &LinearItem) -> usize
     ensures answer { result ≡ size_of_one frame.now (λ label. false) known item.now }
     ensures few { result ≤ 15 }
@@ -179,7 +181,7 @@ fn long_size_of_one(frame: &Frame, known: Remembered, item: &LinearItem) -> usiz
     }
 }
 
-// The number of items that a long branch on a register and a word takes: 2 or 3.
+// The number of items that a long branch on a register and a word needs: 2 or 3.
 fn long_word_branch_size(recipe: WordRecipe, from: u8) -> usize
     requires { from < 32 }
     ensures answer { result ≡ word_branch_size (against_zero recipe from) false }
@@ -191,7 +193,7 @@ fn long_word_branch_size(recipe: WordRecipe, from: u8) -> usize
     }
 }
 
-/// The number of items that a step takes if each branch is long: at most 15.
+/// The number of items that a step needs if each branch is long: at most 15.
 pub(crate) fn long_size(frame: &Frame, step: &Addressed) -> usize
     ensures answer { result ≡ long_size frame.now step.now }
     ensures few { result ≤ 15 }
@@ -213,8 +215,8 @@ pub(crate) fn long_size(frame: &Frame, step: &Addressed) -> usize
     }
 }
 
-// The number of items of a step: `long`, which it takes if each branch is long, or one less if it is a near branch. `here` is the number of
-// items from the step to the end.
+// The number of items of a step: `long`, which is the number if each branch is long, or one less if the step is a near branch. `here` is
+// the number of items from the step to the end.
 fn size(frame: &Frame, first: &[usize], here: usize, long: usize, step: &Addressed) -> usize
     requires long { long ≡ long_size frame.now step.now }
     requires few { long ≤ 15 }
@@ -227,7 +229,7 @@ fn size(frame: &Frame, first: &[usize], here: usize, long: usize, step: &Address
     }
 }
 
-// The label to which a step branches, if it does.
+// The label to which a step branches, if it is a branch.
 fn branched_to(step: &Addressed) -> Option<u32>
     ensures { result ≡ branched_to step.now }
 {
@@ -239,7 +241,7 @@ fn branched_to(step: &Addressed) -> Option<u32>
     }
 }
 
-/// The label, if the step is one.
+/// The label, if the step is a label.
 pub(crate) fn label_of_step(step: &Step) -> Option<u32>
     ensures { result ≡ label_of_step step.now }
 {

@@ -1,5 +1,5 @@
-// Whether a block device on which a library is to be put may be overwritten. The check is a help and not a promise, since the
-// system may begin to use a device at any moment.
+// Whether a block device may be overwritten with a library. The check is a help and not a promise, since the system may begin
+// to use a device at any moment.
 
 use cc_disk::{Disk, FileDisk};
 use cc_library::LibraryFault;
@@ -9,15 +9,15 @@ use std::os::unix::fs::{FileTypeExt, MetadataExt};
 /// Why there is no disk on the file.
 #[derive(Clone, Copy, Drop)]
 pub enum NoDisk {
-    /// The disk or the library refused.
+    /// A call of the disk or the library was refused.
     Refused(LibraryFault),
     /// 34: the device has fewer bytes than the library takes.
     SmallDevice,
-    /// 35: the device is mounted or swapped on, or another device is built on it.
+    /// 35: the device is mounted or used for swapping, or another device is built on it.
     DeviceInUse,
     /// 35: the device has something on it that is not a library.
     OtherContent,
-    /// 35: the name under which a library is made is that of a library that has records.
+    /// 35: the name under which a new library is made already names a library with records.
     Prepared,
 }
 
@@ -40,8 +40,8 @@ const LIBRARY: &[u8] = b"CCLIB01";
 /// The first byte of a record that is in force.
 const OPEN_GATE: &[u8] = b"\xa5";
 
-/// How to recognize other content whose first 16 bytes may be zeros: partition tables, and the volumes and file systems of
-/// Linux.
+/// Offsets and bytes by which other content is recognized, whose first 16 bytes may be zeros: partition tables, and the
+/// volumes and file systems of Linux.
 const OTHERS: [(usize, &[u8]); 7] = [
     (510, b"\x55\xaa"),
     (512, b"EFI PART"),
@@ -52,7 +52,7 @@ const OTHERS: [(usize, &[u8]); 7] = [
     (65600, b"_BHRfS_M"),
 ];
 
-// Whether the disk has these bytes, at most 16, at that offset.
+// Whether the disk has these bytes, at most 16 of them, at that offset.
 fn has(disk: &mut FileDisk, offset: usize, wanted: &[u8]) -> bool {
     let mut found = [0u8; 16];
     let size = disk.size();
@@ -104,7 +104,7 @@ fn is_free(disk: &mut FileDisk) -> bool {
     true
 }
 
-// The number of the block device at that path, if there is one.
+// The device number of the block device at that path, if there is one.
 fn device_at(files: &HostRuntime, path: &str) -> Option<u64> {
     match fs::metadata(files, path) {
         Ok(found) if found.file_type().is_block_device() => Some(found.rdev()),
@@ -112,7 +112,7 @@ fn device_at(files: &HostRuntime, path: &str) -> Option<u64> {
     }
 }
 
-// Whether a line of that list begins with a path of the device, under any of the device's names.
+// Whether a line of the file `list` begins with a path of the device, by any of its names.
 fn is_listed(files: &HostRuntime, list: &str, device: u64) -> bool {
     let Ok(text) = fs::read_to_string(files, list) else {
         return false;

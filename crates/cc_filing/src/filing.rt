@@ -1,4 +1,4 @@
-// The file of a library: it is opened as it is, or made.
+// Opens the file of a library as it is, or makes it.
 
 ghost use Rattle.std.specs.Prelude.{◌≡◌};
 
@@ -40,7 +40,7 @@ pub fn disk_of(files: &HostRuntime, path: &str, area: Option<u32>) -> Result<Fil
     }
 }
 
-/// The disk on the file of a library that is there, for a command that reads it.
+/// The disk on the file of an existing library, for a command that reads it.
 pub fn library_disk(files: &HostRuntime, path: &str) -> Result<FileDisk, PartFault> {
     match disk_of(files, path, None) {
         Ok(disk) => Ok(disk),
@@ -53,7 +53,7 @@ fn size_for(area: u32) -> usize {
     16 + 2 * area as usize
 }
 
-// The disk, formatted as a new library.
+// Formats the disk as a new library, and returns it.
 fn formatted(mut disk: FileDisk, area: u32) -> Result<FileDisk, NoDisk> {
     match format(&mut disk, area) {
         Ok(()) => Ok(disk),
@@ -64,7 +64,7 @@ fn formatted(mut disk: FileDisk, area: u32) -> Result<FileDisk, NoDisk> {
     }
 }
 
-/// Warns if others may read or write the file of a library, since the file has the sources of all units.
+/// Warns if other users may read or write the file of a library, since the file has the sources of all units.
 pub fn tell_wide_disk<E: Write>(files: &HostRuntime, path: &str, told: &mut E) -> io::Result<()> {
     let Ok(found) = fs::metadata(files, path) else {
         return Ok(());
@@ -90,7 +90,7 @@ pub fn name_disk(files: &HostRuntime, making: &str, path: &str) -> io::Result<()
     File::open(files, folder)?.sync_all()
 }
 
-// Whether two names belong to one file.
+// Whether two names belong to the same file.
 fn is_same(files: &HostRuntime, one: &str, other: &str) -> bool {
     match (
         fs::symlink_metadata(files, one),
@@ -101,9 +101,9 @@ fn is_same(files: &HostRuntime, one: &str, other: &str) -> bool {
     }
 }
 
-// Removes what has the name under which a library is made: the file of a server that was killed while it made a library. A file
-// that has another name too is a library whose server was killed between giving it the one name and removing the other: it
-// loses this name, and is not touched. A file that has records was prepared by somebody, and is kept.
+// Removes the file named `making`, which was left by a server that was killed while it made a library. If the file also has
+// another name, the server was killed after it had given the finished library its name: then only `making` is removed. A file
+// that has records was prepared by somebody, and is kept.
 fn clear_name(files: &HostRuntime, making: &str) -> Result<(), NoDisk> {
     let Ok(found) = fs::symlink_metadata(files, making) else {
         return Ok(());
@@ -117,7 +117,7 @@ fn clear_name(files: &HostRuntime, making: &str) -> Result<(), NoDisk> {
     Ok(())
 }
 
-// A new library's disk, under a name that it has only until it is complete.
+// Makes the disk of a new library, under a name that it has only until it is complete.
 fn disk_to_name(files: &HostRuntime, making: &str, area: u32) -> Result<FileDisk, NoDisk> {
     clear_name(files, making)?;
     match FileDisk::create_new(files, making, size_for(area)) {

@@ -1,5 +1,5 @@
-// The folder of a server. It is taken together with the library's disk, and cleaned of what an earlier server left. Here is
-// also what is written about it, and what its clients begin with.
+// The folder of a server. It is taken together with the library's disk, and cleaned of what an earlier server left. This file
+// also reports on the folder, and makes the spools with which its clients begin.
 
 ghost use Rattle.std.specs.Prelude.{◌≡◌, ◌≢◌, IfErr, IfOk};
 
@@ -19,9 +19,9 @@ use std::process;
 pub enum NoFolder {
     /// 56: the system refused a call.
     Refused(io::Error),
-    /// 57: another server works in it.
+    /// 57: another server works in the folder.
     InUse,
-    /// 56: the folder could be used at the start, but can't be any more.
+    /// 56: the folder could be used at the start, but can no longer be used.
     Lost,
 }
 
@@ -62,7 +62,7 @@ pub fn no_folder<W: Write, E: Write>(
     1
 }
 
-// The word for `count` things: `one` for one thing, `more` for any other number.
+// The word to use for `count` things: `one` for one thing, `more` for any other number.
 fn word(count: u64, one: &'static str, more: &'static str) -> &'static str
     ensures one { count ≡ 1 → result.now ≡ one.now }
     ensures more { count ≢ 1 → result.now ≡ more.now }
@@ -119,7 +119,7 @@ fn tell_crowded<E: Write>(folder: &str, waiting: usize, told: &mut E) -> io::Res
     told.flush()
 }
 
-// Answers what an earlier server had begun. Returns the names of the scripts that have to be answered again later.
+// Answers the scripts that an earlier server had begun. Returns the names of those that could not be answered yet.
 fn clean_folder<E: Write>(
     layout: &FolderLayout,
     asked: &Server,
@@ -128,7 +128,7 @@ fn clean_folder<E: Write>(
     let Recovered { begun, kept, stuck } = recover(layout)?;
     let wide = wide_parts(layout)?;
     let waiting = count_entries(layout, MOST_ENTRIES + 1)?;
-    // A report that can't be written is no reason to end.
+    // A report that can't be written is not a reason to end.
     let folder = asked.folder.as_str();
     let _ = tell_recovered(begun, kept.len(), stuck, told);
     let _ = tell_wide(folder, wide.as_slice(), told);
@@ -158,9 +158,9 @@ pub struct Taken {
     pub held: Held,
 }
 
-/// Takes a folder and a library's disk for a server, and answers what an earlier server had begun. If either can't be had, it
-/// writes the line of the fault (56 or 57 for the folder, otherwise the line that `no_disk` writes) and returns the status
-/// instead; nothing is held then. Fails only if memory was refused before anything was taken or written.
+/// Takes a folder and a library's disk for a server, and answers the scripts that an earlier server had begun. If it can't
+/// take both, it writes the line for the fault (56 or 57 for the folder, otherwise the line that `no_disk` writes) and
+/// returns the status instead; nothing is held then. Fails only if memory was refused before anything was taken or written.
 pub fn take_to_serve<W: Write, E: Write>(
     files: &HostRuntime,
     alloc: Global,
@@ -184,7 +184,7 @@ pub fn take_to_serve<W: Write, E: Write>(
         Ok(held) => held,
         Err(reason) => return Ok(Err(no_folder(reason, folder, writer, told))),
     };
-    // The disk is locked before what an earlier server left is answered.
+    // The disk is locked before the scripts that an earlier server left are answered.
     let path = asked.disk.as_str();
     let disk = match disk_to_serve(files, path, asked.area, told) {
         Ok(disk) => disk,
@@ -216,7 +216,7 @@ fn tell_ready<E: Write>(folder: &str, clients: usize, told: &mut E) -> io::Resul
     told.flush()
 }
 
-// Reports that what nobody fetched was not removed.
+// Reports that files that nobody fetched could not be removed.
 fn tell_uncleared<E: Write>(folder: &str, why: &io::Error, told: &mut E) -> io::Result<()> {
     writeln!(told, "cclib: old files in {folder} are not removed: {why}")?;
     told.flush()
@@ -241,7 +241,7 @@ pub fn tell_generation<E: Write>(
     told.flush()
 }
 
-/// Keeps a folder while it is served.
+/// Looks after a folder while it is served.
 #[derive(Drop)]
 pub struct Keeper {
     layout: FolderLayout,
@@ -264,7 +264,7 @@ impl Keeper {
         })
     }
 
-    /// Removes what nobody fetched. The first time, it also reports that the server now takes scripts.
+    /// Removes old files that nobody fetched. The first call also reports that the server now takes scripts.
     pub fn tidy<E: Write>(&mut self, told: &mut E) {
         // What can't be removed remains.
         if let Err(why) = clear_old(&self.layout, self.keep) {
@@ -277,8 +277,8 @@ impl Keeper {
     }
 }
 
-/// A spool for each of `count` clients; there is at least one. The first client tries again what the start could not answer.
-/// Fails only if memory was refused; what was to be tried again then stays in the folder.
+/// A spool for each of `count` clients; there is at least one. The first client tries again to answer the scripts that the
+/// start could not answer. Fails only if memory was refused; then these scripts stay in the folder.
 pub fn spools_of(
     alloc: Global,
     layout: &FolderLayout,
@@ -295,7 +295,7 @@ pub fn spools_of(
     Ok(spools)
 }
 
-/// What became of the answers.
+/// How many answers were handed over, and how many were not.
 #[derive(Clone, Copy, Drop)]
 pub struct AnswerCounts {
     /// How many were handed over.
@@ -306,7 +306,7 @@ pub struct AnswerCounts {
     pub has_failed: bool,
 }
 
-/// Counts over all spools. Each count stops at the largest number of 64 bits.
+/// Counts over all spools. Each count saturates at the largest number of 64 bits.
 pub fn count_all(spools: &[FolderSpool]) -> AnswerCounts {
     let mut counts = AnswerCounts {
         answered: 0,

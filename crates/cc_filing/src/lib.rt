@@ -1,9 +1,10 @@
 //! The library in a file: what the program does with a library without a service.
 //!
-//! `filing` opens the file or makes it, and explains why it could not; `device` says whether a block device in the file's place may be
-//! overwritten; `taking` prints a part of a unit in the file; `folder` takes a server's folder together with the library, and reports on that;
-//! `printing` has buffers for what a command prints. The crate knows nothing of sessions, so it is proved in parallel with `cc_session`.
-//! It exports `disk_of`, `library_disk`, `no_disk`, `NoDisk`, `take_out_of_file` and `buffers`, and what takes a server's folder, tidies it and reports on it.
+//! `filing` opens the file or makes it, or explains why it can't; `device` says whether a block device in the file's place may be
+//! overwritten; `taking` prints a part of a unit in the file; `folder` takes a server's folder together with the library, and reports on
+//! them; `printing` has buffers for what a command prints. The crate knows nothing about sessions, so it is proved in parallel with
+//! `cc_session`. It exports `disk_of`, `library_disk`, `no_disk`, `NoDisk`, `take_out_of_file` and `buffers`, and what takes a server's
+//! folder, tidies it and reports on it.
 #![tactic(auto)]
 
 mod device;

@@ -4,7 +4,7 @@ use cc_answers::Telling;
 use std::alloc::{AllocError, Global};
 use std::io::{BufWriter, Write};
 
-/// Buffers for a command's answers and explanations. The explanations go nowhere if they are to be left out.
+/// Buffers for a command's answers and explanations. If explanations are to be left out, they are dropped.
 pub fn buffers<A: Write + Drop, E: Write + Drop>(
     alloc: Global,
     answers: A,

@@ -1,5 +1,5 @@
-// The commands `image` and `source` with a library: they print a part of a unit that the library in a file keeps. The file is
-// opened as it is for `library`, with its lock, and nothing is written to it.
+// The commands `image` and `source` with a library: they print a part of a unit that the library in a file has. The file is
+// opened as for `library`, with its lock, and nothing is written to it.
 
 ghost use Rattle.std.specs.Prelude.{◌≡◌, false, true, MatchResult};
 ghost use Rattle.std.specs.Io.KnownBytes.{Appends};
@@ -19,7 +19,7 @@ use std::io::{self, IsTerminal, Print, Write};
 const NO_FILE: &str =
     "cclib: the file could not be opened, or failed, or another process has it open\n";
 
-/// What a person reads if the file is no library, because of 38.
+/// What a person reads if the file is not a library, because of 38.
 const NO_LIBRARY: &str = "cclib: the file is no library\n";
 
 // The bytes of the part that is wanted.
@@ -36,7 +36,7 @@ fn bytes_of<E: Write>(
     found
 }
 
-/// Explains a fault to a person. If no unit has the name, that was explained before.
+/// Explains a fault to a person. The fault for a name that no unit has was explained before.
 pub fn explain_part<E: Write>(fault: PartFault, errors: &mut E) -> io::Result<()> {
     match fault {
         PartFault::Library(LibraryFault::DiskFault) => errors.write_all(NO_FILE.as_bytes())?,
@@ -62,8 +62,8 @@ fn told<E: Write>(found: &Result<Vec<u8>, PartFault>, errors: &mut E) -> u8
     }
 }
 
-/// Writes the bytes, or the fault's line. Either it was appended to what the writer held, and nothing else was, or it could not
-/// be written.
+/// Writes the bytes, or the fault's line. Either exactly this text was appended to what the writer held, or it could not be
+/// written.
 pub fn write_found<W: Write, E: Write>(
     found: Result<Vec<u8>, PartFault>,
     writer: &mut W,
@@ -89,9 +89,9 @@ pub fn write_found<W: Write, E: Write>(
     }
 }
 
-/// Writes a part of a unit of the library in a file to standard output: the unit's image as Intel HEX, or its source, byte for
-/// byte. Returns the status. On a terminal, control bytes of the source are shown as `?`. Fails only if memory was refused
-/// before anything began.
+/// Writes to standard output a part of a unit that the library in a file has: the unit's image as Intel HEX, or its source,
+/// byte for byte. Returns the status. On a terminal, control bytes of the source are shown as `?`. Fails only if memory was
+/// refused before anything began.
 pub fn take_out_of_file<R: AllocGlobal + Print, E: Write + Drop>(
     rt: &R,
     files: &HostRuntime,

@@ -6,7 +6,7 @@ use Rattle.std.proofs.lemmas.List.Sums.{sum_by-append}
 use Rattle.cc_size.specs.declared.size.FunctionSize.{FunctionSize}
 use Rattle.cc_findings.specs.Measured.{place_by}
 
--- the place after a function
+-- the place after a function is the function's place plus four bytes for each of its words
 pub place_next : (sizes : List FunctionSize) (k : ℕ) (d : FunctionSize) → k < length sizes → place_by sizes (k + 1) ≡ place_by sizes k + 4 * (get_or sizes k d).words
 place_next sizes k d h =
     let sum : sum_by (λ (s : FunctionSize). s.words) (take (k + 1) sizes) ≡ sum_by (λ (s : FunctionSize). s.words) (take k sizes) + (get_or sizes k d).words =

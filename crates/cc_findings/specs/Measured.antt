@@ -1,4 +1,4 @@
--- What an image takes, with the names and places of its functions.
+-- What an image needs, with the names and places of its functions.
 use Rattle.std.specs.Prelude.{ℕ, ◌≡◌, ◌+◌, ◌*◌, List, length, take, slice_get, Some, sum_by}
 use Rattle.std.specs.Arc.{arc_value}
 use Rattle.cc_ast.specs.Source.{source}
@@ -12,24 +12,22 @@ use Rattle.cc_findings.specs.declared.sizing.CyclicCall.{CyclicCall}
 use Rattle.cc_findings.specs.declared.sizing.Measure.{Measure}
 use Rattle.cc_findings.specs.declared.sizing.SizedFunction.{SizedFunction}
 
--- the first function comes after the three words that call main and exit, and each other function directly after the one before
--- it
+-- the first function comes after the three words that call main and exit, and each other function directly after the one before it
 abbrev pub place_by : List FunctionSize → (f : ℕ) → ℕ
 place_by sizes f = 0x1000c + 4 * sum_by (λ (size : FunctionSize). size.words) (take f sizes)
 
--- function f of a program's image: its name, where it is, and what it takes
+-- function f of a program's image: its name, where it is, and what it needs
 pub record IsFunction (program : Source) (sizes : List FunctionSize) (f : ℕ) (it : SizedFunction) : Type 0 where
   pub name : slice_get (defined_names program) f ≡ Some it.name.items
   pub size : slice_get sizes f ≡ Some it.size
   pub address : it.address ≡ place_by sizes f
 
--- all functions of the image, in the order of their definitions
+-- all functions of the image, in the order of definitions
 pub record AreFunctions (program : Source) (sizes : List FunctionSize) (functions : List SizedFunction) : Type 0 where
   pub count : length functions ≡ length sizes
   pub each : (f : ℕ) (one : SizedFunction) → slice_get functions f ≡ Some one → IsFunction program sizes f one
 
--- a call that is part of a cycle of calls, number k of those that were found: the names of the calling function and of the
--- called one
+-- a call that is part of a cycle of calls, number k of those that were found: the names of the calling function and of the called one
 pub record IsCycle (program : Source) (calls : List Recursion) (k : ℕ) (it : CyclicCall) : Type 0 where
   pub of : Recursion
   pub call : slice_get calls k ≡ Some of
@@ -41,8 +39,8 @@ pub record AreCycles (program : Source) (calls : List Recursion) (cycles : List 
   pub count : length cycles ≡ length calls
   pub each : (k : ℕ) (one : CyclicCall) → slice_get cycles k ≡ Some one → IsCycle program calls k one
 
--- what is taken by an image that follows what the text's program shows in the mode; the place of each function; and which calls
--- are parts of cycles of calls
+-- what an image needs that follows what the text's program shows in the mode; the place of each function; and which calls are
+-- parts of cycles of calls
 pub record Measures (m : Mode) (text : List ℕ) (it : Measure) : Type 0 where
   pub sized : IsSizedIn m text it.sized
   pub functions : AreFunctions (source (arc_value it.sized.made.typed)) it.sized.size.functions.items it.functions.items

@@ -36,7 +36,7 @@ frame_text frame calls = line (codes "frame " ++ decimal frame ++ codes " calls 
 abbrev pub function_size_text : SizedFunction → List ℕ
 function_size_text it = place_of_text it.name.items it.address ++ words_of_text it.size.words ++ frame_text it.size.frame it.size.calls
 
--- what the whole takes
+-- what the whole image needs
 abbrev pub whole_size_text : UnitSize → List ℕ
 whole_size_text size = codes "code " ++ decimal size.code ++ codes "\nglobals " ++ decimal size.globals ++ codes "\nopen " ++ decimal size.calls ++ codes "\nstack " ++ decimal size.stack ++ codes "\n"
 

@@ -1,6 +1,6 @@
 // Whether a program can go wrong, and at which places.
 //
-// If it can't, that is proved. The lines about what may go wrong come from a walk over the instructions on which explanations
+// If it cannot, that is proved. The lines about what may go wrong come from a walk over the instructions on which explanations
 // rest: in functions that need a guard, the operations whose right operand or index is not a constant that is evidently right.
 
 ghost use Rattle.std.specs.Prelude.{◌≡◌, [], true, IfOk, OnOk};
@@ -115,7 +115,7 @@ fn risk_at(text: &[u8], code: &[Instruction<'_>], at: usize) -> Option<(Cause, u
     }
 }
 
-// The function that has an instruction: of those that begin at or before it, the one that begins last.
+// The function that contains an instruction: of the functions that begin at or before it, the last one.
 fn owner_of<'a>(functions: &'a [Function<'a>], at: usize) -> Option<&'a Function<'a>> {
     let mut owner: Option<&Function<'_>> = None;
     for function in functions {
@@ -130,7 +130,7 @@ fn owner_of<'a>(functions: &'a [Function<'a>], at: usize) -> Option<&'a Function
     owner
 }
 
-// Whether the function with this name is one of those with these numbers.
+// Whether the function with this name has one of these numbers.
 fn is_among(unit: &TypedUnit, numbers: &[usize], name: &[u8]) -> bool {
     for number in numbers {
         if *number < unit.functions() && unit.function_name(*number) == name {
@@ -140,7 +140,7 @@ fn is_among(unit: &TypedUnit, numbers: &[usize], name: &[u8]) -> bool {
     false
 }
 
-// Adds what may go wrong in the functions that need a guard, after others.
+// Adds what may go wrong in the functions that need a guard, after the lines that are there already.
 fn add_places(
     alloc: Global,
     lines: &mut Vec<Unsure>,
@@ -181,7 +181,7 @@ fn has_line(lines: &[Unsure], name: &[u8]) -> bool {
     false
 }
 
-// A line for each function that needs a guard and has none yet.
+// A line for each function that needs a guard and has no line yet.
 fn add_others(
     alloc: Global,
     lines: &mut Vec<Unsure>,
@@ -203,7 +203,7 @@ fn add_others(
     Ok(())
 }
 
-// The functions that each function's instructions call, a bit for each.
+// The functions that each function's instructions call, one bit for each called function.
 fn calls_of(alloc: Global, code: &Bytecode<'_>) -> Result<Vec<u64>, AllocError> {
     let mut calls = Vec::new(alloc);
     calls.resize(code.functions.len(), 0)?;
@@ -281,7 +281,7 @@ fn lines_of(
     Ok(lines)
 }
 
-/// What may go wrong in a program; nothing only if it goes wrong on no input and at no bound.
+/// What may go wrong in a program: an empty list only if the program goes wrong on no input and at no bound.
 pub fn judge(alloc: Global, text: &[u8], unit: &Arc<TypedUnit>) -> Result<Vec<Unsure>, AllocError>
     ensures { IfOk result (λ lines. lines.items ≡ [] → IsSafe (source (arc_value unit.now))) }
 {

@@ -36,8 +36,8 @@ fn all_reached(alloc: Global, calls: &[u64]) -> Result<Vec<u64>, AllocError> {
     Ok(reached)
 }
 
-/// The calls that are part of a cycle, ordered by the function that calls and then by the one that is called, if each function
-/// calls these.
+/// The calls that are part of a cycle, ordered by the function that calls and then by the one that is called, given the
+/// functions that each function calls.
 pub(crate) fn cyclic(alloc: Global, calls: &[u64]) -> Result<Vec<Recursion>, AllocError> {
     let reached = all_reached(alloc, calls)?;
     let mut found = Vec::new(alloc);

@@ -1,4 +1,4 @@
-// What an image takes, with the names and places of its functions.
+// What an image needs, with the names and places of its functions.
 
 ghost use Rattle.std.specs.Prelude.{◌≡◌, ◌+◌, ◌*◌, ◌<◌, Some, slice_get, IfOk, IfSome, OnOk};
 ghost use Rattle.std.specs.List.{flat_map};
@@ -17,7 +17,7 @@ use cc_types::TypedUnit;
 use std::alloc::{AllocError, Global};
 use std::io::{self, Write};
 
-/// A function of an image, and what it takes.
+/// A function of an image, and what it needs.
 #[derive(Drop)]
 pub struct SizedFunction {
     /// Its name.
@@ -44,7 +44,7 @@ pub struct Measure {
     pub cycles: Vec<CyclicCall>,
 }
 
-// The address that lies `words` words after an address; none if it would lie past the last address.
+// The address that lies `words` words after an address; `None` if that would be past the last address.
 fn behind(address: u32, words: usize) -> Option<u32>
     ensures { IfSome result (λ next. next ≡ address + 4 * words) }
 {
@@ -108,7 +108,7 @@ fn cycles(
     Ok(cycles)
 }
 
-/// What an image takes, with the names and places of its functions.
+/// What an image needs, with the names and places of its functions.
 pub fn measured(alloc: Global, sized: Sized) -> Result<Measure, AllocError>
     ensures sized { IfOk result (λ it. it.sized ≡ sized) }
     ensures functions { IfOk result (λ it. AreFunctions (source (arc_value sized.made.typed)) sized.size.functions.items it.functions.items) }
@@ -243,7 +243,7 @@ fn write_cycles<W: Write>(cycles: &[CyclicCall], writer: &mut W) -> io::Result<(
     Ok(())
 }
 
-/// Writes what an image takes: a line for each function, then the whole, then the calls that are part of a cycle.
+/// Writes what an image needs: a line for each function, then the whole, then the calls that are part of a cycle.
 #[tactic(auto, using(cc_answers::proofs::Writing::written_third))]
 pub fn write_measure<W: Write>(measure: &Measure, writer: &mut W) -> io::Result<()>
     ensures { OnOk result (Appends (W.contents writer.old) (W.contents writer.new) (measure_text measure.now)) }

@@ -7,13 +7,13 @@ use Rattle.std.proofs.lemmas.List.Elements.{All-set, All-push, All-get_or, Conta
 use Rattle.cc_flow.specs.Flow.{successors_of, rows_of}
 use Rattle.cc_flow.specs.internal.Edges.{AreEdges}
 
--- a row as a list
+-- the items of a row are its list of successors
 pub row_is : (rows : List (SmallVec ℕ)) (i : ℕ) (d : SmallVec ℕ) → i < length rows → (get_or rows i d).items ≡ successors_of (rows_of rows) i
 row_is [] i d h = absurd (omega arith)
 row_is (row ∷ rows) zero d h = refl
 row_is (row ∷ rows) (suc i) d h = row_is rows i d (omega arith)
 
--- setting one row
+-- setting one row sets its list of successors
 pub row_set : (rows : List (SmallVec ℕ)) (at : ℕ) (new : SmallVec ℕ) (row : List ℕ) → new.items ≡ row → rows_of (set rows at new) ≡ set (rows_of rows) at row
 row_set rows at new row h = map-set' rows at new ∙ ap (set (rows_of rows) at) h
   where
@@ -60,13 +60,13 @@ only_more rows at node i x h c = go (cases_eq i at)
         elim (Contains-push_cases (successors_of rows at) node x (subst (λ r. Contains r x) same c)) [ inl old ↦ inl (subst (λ k. Contains (successors_of rows k) x) (sym e) old) | inr is ↦ inr (e, is) ]
     go (inr n) = inl (subst (λ r. Contains r x) (get_or-set_other rows at i new [] n) c)
 
--- the rows have only nodes after one more was added
+-- after one more node is added, the rows still have only nodes
 nodes_more : (n : ℕ) (rows : List (List ℕ)) (at node : ℕ) → at < length rows → node < n → All (λ row. All (λ x. x < n) row) rows → All (λ row. All (λ x. x < n) row) (more_in rows at node)
 nodes_more n rows at node h lt all =
     let P : List ℕ → Type 0 = λ row. All (λ x. x < n) row in
     All-set P rows at (successors_of rows at ++ node ∷ []) (All-push (λ x. x < n) (successors_of rows at) node (All-get_or P rows at [] h all) lt) all
 
--- one more predecessor
+-- one more predecessor may be noted
 pub with_predecessor : (successors predecessors : List (List ℕ)) (from to : ℕ) → from < length successors → to < length successors → AreEdges successors predecessors → AreEdges successors (more_in predecessors to from)
 with_predecessor successors predecessors from to f t e =
     let within : to < length predecessors = let r = e.rows in omega arith in
@@ -77,7 +77,7 @@ with_predecessor successors predecessors from to f t e =
       leads = λ p s h. still_in predecessors to from s p within (e.leads p s h);
     }
 
--- an edge is added whose predecessor is noted already
+-- an edge may be added in both directions
 pub with_edge : (successors predecessors : List (List ℕ)) (from to : ℕ) → from < length successors → to < length successors → AreEdges successors predecessors → AreEdges (more_in successors from to) (more_in predecessors to from)
 with_edge successors predecessors from to f t e =
     let half = with_predecessor successors predecessors from to f t e in

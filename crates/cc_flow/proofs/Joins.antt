@@ -12,14 +12,14 @@ module _ {F : Type 0} (below : F → F → Type 0) (bottom : F) (lub : F → F �
   pub same_again : (x : F) → Equivalent below x x
   same_again x = (laws.reflexive x, laws.reflexive x)
 
-  -- the join with one more node
+  -- a join to which the facts of one more node are joined is the join with that node
   pub lub_more : (r x y s : F) → Equivalent below r (lub x s) → Equivalent below x y → Equivalent below r (lub s y)
   lub_more r x y s h e = (
     laws.transitive _ _ _ h.0 (laws.within x s (lub s y) (laws.transitive _ _ _ e.0 (laws.second s y)) (laws.first s y)),
     laws.within s y r (laws.transitive _ _ _ (laws.second x s) h.1) (laws.transitive _ _ _ e.1 (laws.transitive _ _ _ (laws.first x s) h.1)),
   )
 
-  -- the join of a single node
+  -- the join of a single node's facts is equivalent to these facts
   pub lub_alone : (x : F) → Equivalent below x (lub x bottom)
   lub_alone x = (laws.first x bottom, laws.within x bottom x (laws.reflexive x) (laws.least x))
 
@@ -48,7 +48,7 @@ module _ {F : Type 0} (below : F → F → Type 0) (bottom : F) (lub : F → F �
     carries_same l r x y h e = (laws.transitive _ _ _ h.0 (monotone l x y e.0), laws.transitive _ _ _ (monotone l y x e.1) h.1)
 
     module _ (graph : List (List ℕ)) where
-      -- what a node makes of facts below a solution is below the solution
+      -- what a node computes from facts below a solution is below the solution
       pub carried_within : (facts other : ℕ → F) → LiesUnder below facts other → Solves below bottom lub carries graph other → (l : ℕ) → l < length graph → below (carried bottom lub carries graph facts l) (other l)
       carried_within facts other h solves l i = laws.transitive _ _ _ (monotone l _ _ (joined_up facts other h (successors_of graph l))) (solves l i)
 
@@ -80,14 +80,14 @@ module _ {F : Type 0} (below : F → F → Type 0) (bottom : F) (lub : F → F �
           = joined_same (facts_at bottom facts) (facts_at bottom (set facts at new)) (successors_of graph at) (λ s c. sym (get_or-set_other facts at s new bottom (λ e. unread (subst (Contains (successors_of graph at)) e c)))) in
           subst (λ x. below (carries at x) (facts_at bottom (set facts at new) at)) same (subst (below (carried bottom lub carries graph (facts_at bottom facts) at)) (sym (get_or-set_same facts at new bottom within)) holds)
 
-      -- after a visit to a node that did not rise
+      -- after a visit to a node that did not rise, each node still waits or is settled
       pub done_settled : (flags : List Bool) (facts : List F) (node : ℕ) → Settled facts node → IsDone flags facts → IsDone (set flags node false) facts
       done_settled flags facts node settled done l within = elim (cases_eq l node) [
         | inl e ↦ inr (subst (Settled facts) (sym e) settled)
         | inr n ↦ elim (done l within) [ inl w ↦ inl (others_wait flags node l n ∙ w) | inr s ↦ inr s ]
       ]
 
-      -- after a node rose, and all nodes that read it wait
+      -- after a node rose, each node waits or is settled, if all nodes that read the risen node wait
       pub done_risen : (flags flags' : List Bool) (facts : List F) (node : ℕ) (new : F) → node < length facts → below (carried bottom lub carries graph (facts_at bottom facts) node) new
           → ((l : ℕ) → waits (set flags node false) l ≡ true → waits flags' l ≡ true) → ((l : ℕ) → Contains (successors_of graph l) node → waits flags' l ≡ true)
           → IsDone flags facts → IsDone flags' (set facts node new)

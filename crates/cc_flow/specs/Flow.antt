@@ -23,7 +23,7 @@ abbrev pub joined : {F : Type 0} → (bottom : F) → (lub : F → F → F) → 
 joined bottom lub facts [] = bottom
 joined bottom lub facts (s ∷ ss) = lub (facts s) (joined bottom lub facts ss)
 
--- what comes back to a node: what the node makes of the join of its successors' facts
+-- what comes back to a node: what the node computes from the join of its successors' facts
 abbrev pub carried : {F : Type 0} → (bottom : F) → (lub : F → F → F) → (carries : ℕ → F → F) → List (List ℕ) → (facts : ℕ → F) → (node : ℕ) → F
 carried bottom lub carries graph facts node = carries node (joined bottom lub facts (successors_of graph node))
 

@@ -5,7 +5,7 @@
 abbrev pub Equivalent : {F : Type 0} → (below : F → F → Type 0) → F → F → Type 0
 Equivalent below a b = below a b × below b a
 
--- an order in which `bottom` is below everything, and `lub` gives a least upper bound
+-- an order in which `bottom` is below everything, and `lub` is a least upper bound
 pub record IsLattice {F : Type 0} (below : F → F → Type 0) (bottom : F) (lub : F → F → F) : Type 0 where
   pub reflexive : (x : F) → below x x
   pub transitive : (x y z : F) → below x y → below y z → below x z

@@ -1,4 +1,4 @@
-// What may be known at a node, and what a node turns it into.
+// What may be known at a node, and what a node computes from the facts after it.
 
 ghost use Rattle.std.specs.Prelude.{◌≡◌, ℕ, ◌<◌, ◌≤◌, IfOk, IfErr, IsTrue, IsFalse};
 ghost use Rattle.cc_flow.specs.Lattice.{Equivalent, IsLattice};
@@ -34,15 +34,15 @@ pub trait Facts: Drop {
     // The order has a least value and least upper bounds.
     ghost laws: { IsLattice below bottom lub };
 
-    // No value rises more often than `height`.
+    // From the least value, no value rises more than `height` times.
     ghost bounded: { room bottom ≤ height };
 }
 
-/// What each node makes of the facts after it. This is monotone: more facts never make less.
+/// What each node computes from the facts after it. This is monotone: more facts never lead to fewer.
 pub trait Transfer<F: Facts> {
     ghost carries: { Self → ℕ → F → F };
 
-    /// Returns what a node makes of these facts.
+    /// Returns what a node computes from these facts.
     fn apply(&self, alloc: Global, node: usize, facts: &F) -> Result<F, AllocError>
         ensures { IfOk result (λ carried. Equivalent F.below carried (carries self.now node facts.now)) };
 

@@ -33,7 +33,7 @@ impl<F> Solution<F> {
         self.facts.as_slice()
     }
 
-    /// The same as a `Vec`. This takes no memory.
+    /// The facts of the nodes, in order, as a `Vec`. This takes no memory.
     pub fn into_vec(self) -> Vec<F>
         ensures { result.items ≡ self }
     {
@@ -44,7 +44,7 @@ impl<F> Solution<F> {
 
 /// Returns the solution that is below every other. `AllocError` if memory runs out.
 ///
-/// Each node gets what its transfer makes of the join of its successors' facts.
+/// Each node gets what its transfer computes from the join of its successors' facts.
 pub fn solve_backward<F: Facts, T: Transfer<F>>(
     alloc: Global,
     graph: &Graph,
@@ -116,7 +116,7 @@ fn raise<F: Facts, T: Transfer<F>>(
     Ok(rose)
 }
 
-/// What a node makes of the join of its successors' facts.
+/// What a node computes from the join of its successors' facts.
 fn carry<F: Facts, T: Transfer<F>>(
     alloc: Global,
     transfer: &T,

@@ -1,4 +1,5 @@
--- What an expression's form shows about its value: a bound, or that it is a divisor. So the operation evidently has a value.
+-- What an expression's form shows about its value: a bound, or that it can be a divisor. An operation on it then evidently
+-- has a value.
 use Rattle.std.proofs.Common.{◌≡◌, ℕ, zero, suc, ◌+◌, ◌-◌, ◌*◌, ◌/◌, ◌^◌, ◌%◌, ◌<◌, ◌≤◌, Bool, true, false, ◌==◌, nat_lt, List, [], ◌∷◌, ◌++◌, inl, inr, Option, Some, None, refl, sym, ap, ◌∙◌, subst, mod-lt, arith, pos}
 use Rattle.std.specs.Prelude.{if◌then◌else◌, not, ◌&&◌, ◌||◌, nat_le, int_lt, int_le, ◌-ℤ◌}
 use Rattle.std.specs.Option.{option_or}
@@ -47,7 +48,7 @@ product_within None k x y w le p q = tt
 product_within (Some m) None x y w le p q = tt
 product_within (Some m) (Some k) x y w le p q = let u : x * y ≤ m * k = mul-le-mul p q in word_within (m * k) w (omega arith)
 
--- if the value is there, it is this one
+-- if there is a value, it is v
 when_false : (b : Bool) (v w : ℕ) → (if b then None else Some v) ≡ Some w → v ≡ w
 when_false true v w e = absurd (let f : None ≡ Some w = e in cc)
 when_false false v w e = (let f : Some v ≡ Some w = e in cc)
@@ -60,7 +61,7 @@ truth_small : (b : Bool) (w : ℕ) → Some (truth_value b) ≡ Some w → w ≤
 truth_small true w e = let f : 1 ≡ w = (let g : Some 1 ≡ Some w = e in cc) in omega arith
 truth_small false w e = let f : 0 ≡ w = (let g : Some 0 ≡ Some w = e in cc) in omega arith
 
--- both operands have values
+-- both operands have values, from which the operation computes w
 record Operands (op : two.Binary) (a b : Option ℕ) (w : ℕ) : Type 0 where
   left : ℕ
   right : ℕ
@@ -80,7 +81,7 @@ given : (b : Bool) (v w : ℕ) → b ≡ false → (if b then None else Some v) 
 given true v w e f = absurd (let g : true ≡ false = e in cc)
 given false v w e f = some_is v w f
 
--- the known bounds hold
+-- the known bounds hold of the variables
 abbrev pub Holds : List Limit → Variables → Type 0
 Holds [] l = Unit {0}
 Holds (k ∷ ks) l = (l k.variable ≤ k.most) × Holds ks l

@@ -22,7 +22,7 @@ abbrev pub Has : List Limit → Limit → Type 0
 Has [] f = ⊥
 Has (k ∷ ks) f = (k ≡ f) ⊎ Has ks f
 
--- if the bounds of the first list hold, those of the second do
+-- if the bounds of the first list hold, so do those of the second
 abbrev pub Yields : List Limit → List Limit → Type 0
 Yields ks gs = (l : Variables) → Holds ks l → Holds gs l
 
@@ -78,7 +78,7 @@ stays_below n p f is = let lt : nat_lt f.variable n ≡ true = and_left (nat_lt 
 stays_unset : (n : ℕ) (p : ℕ → Bool) (f : Limit) → stays n p f ≡ true → p f.variable ≡ false
 stays_unset n p f is = is_false (p f.variable) (and_right (nat_lt f.variable n) (not (p f.variable)) is)
 
--- a bound that stays is of a variable below n
+-- a bound that stays is a bound of a variable below n
 stays_skip : (n : ℕ) (p : ℕ → Bool) (f : Limit) → stays n p f ≡ true → stays n (sets Skip) f ≡ true
 stays_skip n p f is = both_true (nat_lt f.variable n) true (and_left (nat_lt f.variable n) (not (p f.variable)) is) refl
 
@@ -107,7 +107,7 @@ limits_of : (n : ℕ) (gs : List Limit) → ((f : Limit) → Has gs f → f.vari
 limits_of n [] f = tt
 limits_of n (g ∷ gs) f = (f g (inl refl), limits_of n gs (λ k i. f k (inr i)))
 
--- the bounds kept are of variables below n
+-- the bounds that are kept are bounds of variables below n
 pub kept_under : (n : ℕ) (p : ℕ → Bool) (ks : List Limit) → LimitsUnder n (kept n p ks)
 kept_under n p ks = limits_of n (kept n p ks) (λ f i. stays_below n p f (is_kept n p ks f i).1)
 
@@ -182,7 +182,7 @@ met_under true false n u before one other x y z = y
 met_under false true n u before one other x y z = z
 met_under false false n u before one other x y z = x
 
--- a bound that is known again after a turn holds then
+-- if the bound m holds of w and is at most n, then w is at most n
 at_most_is : (m : Option ℕ) (n w : ℕ) → at_most m n ≡ true → Within m w → w ≤ n
 at_most_is None n w e p = absurd (let f : false ≡ true = e in cc)
 at_most_is (Some m) n w e p = let x : w ≤ m = p in let y : m ≤ n = grind (arith, nat_tests) in omega arith
@@ -317,7 +317,7 @@ module _ (objects : List Size) where
     yields_after : (s : Statement) (ks : List Limit) → Yields (known_after objects n ks s) (kept n (sets s) ks)
     yields_after s ks = yields_of (known_after objects n ks s) (kept n (sets s) ks) (λ f i. let p = is_kept n (sets s) ks f i in has_after s ks f p.0 p.1)
 
-    -- the same holds after a block
+    -- what is known after a block includes the bounds of variables that the block does not set
     yields_block : (b : Bool) (s : Statement) (ks : List Limit) → Yields (known_after objects n ks s) (if b then kept n (sets s) ks else known_after objects n ks s)
     yields_block true s ks = yields_after s ks
     yields_block false s ks = λ l h. h
@@ -375,7 +375,7 @@ module _ (objects : List Size) where
     -- ---- code, with what is known at each place
 
     module _ (quiet : Bool) where
-      -- there is no guard, if the code is to be quiet
+      -- if `quiet` is true, there is no guard
       abbrev pub Silent : List Guard → Type 0
       Silent gs = quiet ≡ true → some_guard gs ≡ false
 

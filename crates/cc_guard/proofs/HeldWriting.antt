@@ -1,4 +1,4 @@
--- The code with words in variables, as lists of statements: this is how it is written.
+-- Code that holds words in variables, as the lists of statements that the pass writes.
 use Rattle.std.proofs.Common.{◌≡◌, ℕ, suc, List, [], ◌∷◌, ◌++◌, refl, ap}
 use Rattle.cc_cminor.specs.Cminor.{Constant, Statement, Set, Sequence}
 use Rattle.cc_cminor.specs.Code.{in_sequence}

@@ -1,6 +1,6 @@
 -- Code with words in variables does what the original code does, move by move, once the words are in their variables. The
 -- variables below m have the same words in both, and those from m on hold the chosen words and are not set again. So it keeps up
--- as the original code does, its calls are calls, and its numbers are within their limits.
+-- as the original code does, its calls are right, and its numbers are within their limits.
 use Rattle.std.proofs.Common.{◌≡◌, ℕ, zero, suc, ◌+◌, ◌<◌, ◌≤◌, ◌==◌, cond, Bool, true, false, List, [], ◌∷◌, length, Option, Some, None, inl, inr, refl, sym, ap, ◌∙◌, subst, arith}
 use Rattle.std.specs.Prelude.{if◌then◌else◌}
 use Rattle.std.proofs.lemmas.Bool.Decides.{nat_tests, eqb_tells}
@@ -172,7 +172,7 @@ puts_lie : (ws : List ℕ) (m : ℕ) (l : Variables) → Lie ws m (puts ws m l)
 puts_lie [] m l = tt
 puts_lie (w ∷ ws) m l = (puts_below ws (suc m) (put l m w) m (omega arith) ∙ put_there l m w, puts_lie ws (suc m) (put l m w))
 
--- how many moves it takes to put the words into their variables: three for each
+-- how many moves it takes to put the words into their variables: three for each word
 abbrev long : List ℕ → ℕ
 long [] = 0
 long (w ∷ ws) = suc (suc (suc (long ws)))

@@ -1,7 +1,7 @@
 -- How guarded code is shown to keep up. A recursion on guards shows what they do to the variables, without a run. So the guards
--- of an expression let the run pass exactly if the expression has a value, and after them its value is that one. A run passes all
--- guards, or one of them stops it and it goes on for ever. One or more moves of the guarded code match each move of the code, so
--- each cut of a run of the code has a cut of the guarded run, in which no less has been done.
+-- of an expression let the run pass exactly if the expression has a value, and after them the guarded expression has that value.
+-- A run passes all guards, or one of them stops it and it goes on for ever. One or more moves of the guarded code match each move
+-- of the code, so for each cut of a run of the code there is a cut of the guarded run in which at least as much has been done.
 --
 -- what guards do to the variables
 pub mod Passing
@@ -13,7 +13,7 @@ pub mod Tests
 pub mod Values
 -- what is known at a place of the code holds there
 pub mod Flow
--- how guarded code goes along with the code
+-- how guarded code follows the original code
 pub mod Matching
 -- each move of the code is matched
 pub mod Moves
@@ -29,15 +29,15 @@ pub mod Few
 pub mod Sizing
 -- marks of the variables that a statement sets
 pub mod Marking
--- code with words in variables goes along with the code
+-- code that holds words in variables follows the original code
 pub mod Holding
--- the code writes code with words in variables as the definition says
+-- code that holds words in variables is written as the definition says
 pub mod HeldWriting
 -- the pair that the pass makes
 pub mod Lowered
--- code whose constants are words makes only words
+-- code whose constants are words computes only words
 pub mod Words
--- a unit that needs no guard goes wrong only in depth
+-- a unit that needs no guard goes wrong only because calls are nested too deep
 pub mod OnlyDepth
--- the code writes guards as the definition says
+-- guards are written as the definition says
 pub mod Writing

@@ -1,6 +1,6 @@
 -- What the guards need from the code of a pair and from the meaning of a unit. The code's variables are below the number from
--- which the guards set theirs, each exit leaves blocks that exist, and the answer to a call leaves each object its size. Also,
--- calls stay calls.
+-- which the guards set theirs, each exit leaves blocks that exist, and a call that answers keeps the size of each object.
+-- Also, if the original code makes only calls that are right, so does the guarded code.
 use Rattle.std.proofs.Common.{◌≡◌, ℕ, suc, ◌≤◌, ◌<◌, List, [], ◌∷◌, ◌++◌, length, map, Option, Some, None, refl, sym, ap, ◌∙◌, Bool, true, false, if◌then◌else◌, subst, arith}
 use Rattle.std.proofs.lemmas.Bool.Decides.{nat_tests}
 use Rattle.cc_ast.specs.Tree.{External}
@@ -167,7 +167,7 @@ module _ (unit : List External) (objects : List Size) (n : ℕ) where
 same_sizes : (gs hs : List Global) → sizes gs ≡ sizes hs → map size_of (objects_of gs) ≡ map size_of (objects_of hs)
 same_sizes gs hs e = unnamed_sizes gs ∙ ap (λ (zs : List NamedSize). map unnamed zs) e ∙ sym (unnamed_sizes hs)
 
--- objects that were given the names of a unit's objects are the same once the names are taken off
+-- objects that were given the names of a unit's objects are unchanged once the names are removed
 unnamed_again : (gs : List Global) (os : List Object) → map size_of os ≡ map size_of (objects_of gs) → objects_of (named (names_of gs) os) ≡ os
 unnamed_again [] [] e = refl
 unnamed_again [] (o ∷ os) e = absurd (let q : ◌≡◌ {A = List Size} (size_of o ∷ map size_of os) [] = e in cc)
@@ -199,7 +199,7 @@ module _ (keep : CallsKeepObjects) (mode : Mode) (unit : List External) (m : Mea
   guarded_keeps_up : (f : ℕ) (s : Statement) → ExitsFit 0 s → TracksOrBreaks m f 1 cminor_move cminor_output (cminor_start s) → Tracks m f 1 cminor_move cminor_output (cminor_start (guarded_function m.objects (above_statement 0 s) s))
   guarded_keeps_up f s exits tracks = guarded_tracks m keeps_sizes f 0 (above_statement 0 s) s (fits_above s 0 0 exits).1 tracks
 
--- if code goes wrong when its function does, then once it is guarded it keeps up with the checked function
+-- if code goes wrong when its function does, the guarded code keeps up with the checked function
 checked_keeps_up : CallsKeepObjects → (unit : List External) (f : ℕ) (s : Statement) → ExitsFit 0 s → FailsAlike unit f s → KeepsUp Checked unit f (guarded_function (objects_in unit) (above_statement 0 s) s)
 checked_keeps_up keep unit f s exits alike m is =
     subst (λ (objects : List Size). Tracks m f 1 cminor_move cminor_output (cminor_start (guarded_function objects (above_statement 0 s) s))) is.objects

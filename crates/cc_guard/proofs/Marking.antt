@@ -1,4 +1,4 @@
--- The marks after one statement and then another.
+-- Marking what one statement sets, and then what another sets, marks what both set.
 use Rattle.std.proofs.Common.{◌≡◌, ◌==◌, ℕ, zero, suc, ◌+◌, ◌<◌, ◌≤◌, Bool, true, false, List, [], ◌∷◌, ◌++◌, length, drop, get_or, append_assoc, drop-cons, Some, refl, sym, ap, ◌∙◌, inl, inr, arith}
 use Rattle.std.specs.Prelude.{◌||◌, set}
 use Rattle.std.proofs.lemmas.Bool.Decides.{nat_tests, eqb_tells}

@@ -1,6 +1,6 @@
--- How code with guards goes along with code without them: each move of the code is one or more moves of the guarded code, with
--- the same call or the same return. If an operation has no value, the guarded code reaches a configuration that moves to itself.
--- The rest of the file shows what follows for runs.
+-- How code with guards follows code without them: one or more moves of the guarded code, with the same call or the same return,
+-- match each move of the code. If an operation has no value, the guarded code reaches a configuration that moves to itself. The
+-- rest of the file shows what follows for runs.
 use Rattle.std.proofs.Common.{◌≡◌, ℕ, zero, suc, ◌+◌, ◌-◌, ◌*◌, ◌≤◌, List, [], ◌∷◌, Option, Some, None, inl, inr, refl, sym, ap, ◌∙◌, subst, arith}
 use Rattle.std.proofs.Math.Nat.{mul-le-mul_left, suc-mul}
 use Rattle.cc_simulation.specs.Behavior.{Going, Ended, Outcome, IsRight}
@@ -41,7 +41,7 @@ module _ (s : Statement) (κ : Continuation) (h : World) (b : ℕ) where
     pub way : Way moves (config (guards_then b gs s) κ l h) (config s κ after h)
     pub holds : P after
 
-  -- if its condition is 0 an `If` goes to its second statement, else to its first one
+  -- if its condition is 0, an `If` goes to its second statement, else to its first one
   to_second : (e : Expression) (c d : Statement) (l : Variables) (κ : Continuation) → value e l h ≡ Some 0 → cminor_move (config (If e c d) κ l h) ≡ Goes (config d κ l h)
   to_second e c d l κ v = ap (λ o. tried o (λ w. Goes (config (chosen w c d) κ l h))) v
 
@@ -129,7 +129,8 @@ module _ (effect : ℕ → Question → Effect) (Related : Config → Config →
     pub way : Way moves d to
     pub related : Related c to
 
-  -- the guarded code asks the same, and is related again after each answer that the call can give
+  -- the guarded code asks the same question, and the two configurations are related again after each answer that the call can
+  -- give
   pub record Asks (q : Question) (resume : Answer → Config) (d : Config) : Type 0 where
     pub moves : ℕ
     pub to : Config
@@ -325,7 +326,7 @@ module _ (effect : ℕ → Question → Effect) (Related : Config → Config →
     broken_on rate n (Unfinished o) c d rel p = let y = hung p.moves p.steps o c d rel p.breaks n in (y.k, p.steps, (y.same, enough rate n (works y.k p.steps d) y.paid))
     broken_on rate n (Failed o) c d rel p = absurd p
 
-    -- what is kept after the first moves of a run is kept from its start
+    -- if `IsKept` holds after the first moves of a run, it holds at the start of the run
     pub kept_after : (m rate n : ℕ) (e : Effect) (c d : Config) → Way m c d → IsKept rate n e d → IsKept rate n e c
     kept_after m rate n (Gives a left) c d p (k, j, q) =
         (m + k, j, (way_run m k j c d p ∙ q.0, more_paid rate n left (works k j d) (works (m + k) j c) (let e = way_work m k j c d p in omega arith) q.1))

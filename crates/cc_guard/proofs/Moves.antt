@@ -125,7 +125,7 @@ module _ (objects : List Size) (n : ℕ) (quiet : Bool) where
 
     -- ---- statements that end
 
-    -- what remains to be done goes on from what is known now
+    -- what remains to be done can start with the bounds known now
     done : (ks gs : List Limit) (ν : Noted) (l m : Variables) (h : World) → Agree n m l → LimitsUnder n ks → Holds ks m → Yields ks gs → Continues objects n quiet gs ν → map size_of h.globals ≡ objects → At Skip ks ν l m h
     done ks gs ν l m h agree u k y c sizes = record { agree = agree; under = u; holds = k; flows = tt; after = gs; leads = λ e. y; continues = c; sizes = sizes }
 
@@ -200,7 +200,7 @@ module _ (objects : List Size) (n : ℕ) (quiet : Bool) where
         ap (λ r. then_value r (λ j. then_value (value e m h) (λ x. stored h w o j x))) (same_value i k m l h u p)
         ∙ ap (λ r. then_value (value i l h) (λ j. then_value r (λ x. stored h w o j x))) (same_value e k m l h v p)
 
-    -- after the guards of a store, the guarded code's store gives this same world
+    -- after its guards, the store of the guarded code gives the world g
     abbrev pub Stored : Width → ℕ → Expression → Expression → List Limit → Variables → World → Variables → World → Type 0
     Stored w o i e ks m h k g = Agree n k m × (store w o i e k h ≡ Some g) × Holds ks k
 
@@ -252,7 +252,7 @@ module _ (objects : List Size) (n : ℕ) (quiet : Bool) where
         by_index None s = absurd (let z : None ≡ Some g = s in cc)
         by_index (Some j) s = by_value j (value e m h) s
 
-    -- a store that follows such guards matches the code's store
+    -- if the guards before it leave `Stored`, the store of the guarded code matches that of the code
     store_matched : (w : Width) (o : ℕ) (i e i' e' : Expression) (gs : List Guard) (ks hs : List Limit) (ν : Noted) (l m : Variables) (h : World) → Under n i → Under n e → Agree n m l → map size_of h.globals ≡ objects
         → Meets h gs m (store w o i e m h) (λ k g. Stored w o i' e' ks m h k g) → ((k : Variables) (g : World) → Agree n k l → Holds ks k → map size_of g.globals ≡ objects → At Skip hs ν l k g)
         → Matched h.output (moves (Store w o i e) (plain_next ν) l h) (config (guards_then (blocks_of ν) gs (Store w o i' e')) (next ν) m h)

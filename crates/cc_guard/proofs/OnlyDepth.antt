@@ -1,7 +1,8 @@
 -- If code, unchanged, keeps up with the checked function, and goes wrong if the function does, then the function goes wrong only
--- in depth. For if the function went wrong otherwise, the checked function would run for ever, so a run of the code would go
--- wrong at no bound. But the code goes wrong in the plain meaning, and the two meanings agree on every function that it calls.
--- So, by induction on the number of open calls, the plain and the checked meaning of such a unit are the same.
+-- because calls are nested too deep. For if it went wrong for another cause, the checked function would run for ever, so a run
+-- of the code would go wrong at no bound. But the code goes wrong in the plain meaning, and the two meanings agree on every
+-- function that it calls. So, by induction on the number of open calls, the plain and the checked meaning of such a unit are the
+-- same.
 use Rattle.std.proofs.Common.{◌≡◌, ℕ, zero, suc, ◌+◌, ◌-◌, ◌<◌, Bool, true, false, List, [], length, unwrap_or, refl, sym, ap, ◌∙◌, subst, inl, inr, arith}
 use Rattle.std.specs.Prelude.{if◌then◌else◌}
 use Rattle.std.proofs.lemmas.Bool.{cases_lt}
@@ -57,7 +58,7 @@ module _ (unit : List External) (each : NoneNeedsGuard unit) (go_on : BodiesGoOn
     abbrev runs_in : (ℕ → Question → Effect) → ℕ → ℕ → Config → runs.Outcome Answer
     runs_in effect k j x = run cminor_move cminor_output effect k j x
 
-    -- ---- a run is the same in both
+    -- ---- a run is the same in both meanings
 
     same_resumed : (k : ℕ) (e : Effect) (resume : Answer → Config) → Fits e → ((a : Answer) → IsGiven unit a → IsOfWords unit (resume a)) → ((j : ℕ) (x : Config) → IsOfWords unit x → runs_in plainly k j x ≡ runs_in checkedly k j x)
         → resumed e resume (runs_in plainly k) ≡ resumed e resume (runs_in checkedly k)
@@ -125,7 +126,7 @@ module _ (unit : List External) (each : NoneNeedsGuard unit) (go_on : BodiesGoOn
           let k = subst (λ (x : Effect). Keeps 1 n x (work cminor_move checkedly t.2.moves t.2.steps (cminor_start code ws h)) (runs_in checkedly t.2.moves t.2.steps (cminor_start code ws h))) e t.2.keeps in
           given t.2.moves t.2.steps (cminor_start code ws h) a start (ap (λ (o : runs.Outcome Answer). o.stop) k.0)
 
-      -- if the function went wrong, but not in depth, it would do so at all bounds, and the checked function at none
+      -- if the function went wrong for a cause other than depth, it would do so at all bounds, and the checked function at none
       stays_right : (cause : Cause) → stays Checked cause ≡ true → (x : by_name.Effect by_name.Answer) → ((d : Cause) (o : List ℕ) → x ≡ by_name.Failed d o → d ≡ cause) → IsRight (answered (numbered Checked x)).stop
       stays_right cause s (by_name.Answers a left) f = tt
       stays_right cause s (by_name.Unfinished o) f = tt

@@ -10,7 +10,7 @@ module _ (h : World) where
   abbrev pub Passes : (first second : Expression) → Variables → Type 0
   Passes d e l = (value d l h ≡ Some 0) ⊎ ((v : ℕ) × (value d l h ≡ Some (suc v)) × (value e l h ≡ Some 0))
 
-  -- no guard stops the run, and P holds of the variables after them
+  -- no guard stops the run, and P holds of the variables after the guards
   abbrev pub Comes : List Guard → Variables → (Variables → Type 0) → Type 0
   Comes [] l P = P l
   Comes (Put t e ∷ gs) l P = (w : ℕ) × (value e l h ≡ Some w) × Comes gs (put l t w) P
@@ -24,7 +24,8 @@ module _ (h : World) where
   Stops (Stop e ∷ gs) l = ((w : ℕ) × (value e l h ≡ Some (suc w))) ⊎ ((value e l h ≡ Some 0) × Stops gs l)
   Stops (StopBoth d e ∷ gs) l = ((v : ℕ) × (w : ℕ) × (value d l h ≡ Some (suc v)) × (value e l h ≡ Some (suc w))) ⊎ (Passes d e l × Stops gs l)
 
-  -- no guard stops the run exactly if there is a value, and then Q holds of the variables after them and the value
+  -- no guard stops the run exactly if there is a value, and then Q holds of the variables after the guards and of that
+  -- value
   abbrev pub Meets : {A : Type 0} → List Guard → Variables → Option A → (Variables → A → Type 0) → Type 0
   Meets gs l None Q = Stops gs l
   Meets gs l (Some a) Q = Comes gs l (λ m. Q m a)
@@ -60,19 +61,19 @@ module _ (h : World) where
   then_meets gs is l a None Q R p f = stops_then gs is l (comes_as gs l (λ m. Q m a) (λ m. Stops is m) p f)
   then_meets gs is l a (Some b) Q R p f = comes_then gs is l (λ m. R m b) (comes_as gs l (λ m. Q m a) (λ m. Comes is m (λ n. R n b)) p f)
 
-  -- the guards of a value are followed by the guards of what is computed from it
+  -- the guards of a value, followed by those of what is computed from it, are guards of the result
   pub meets_then : {A B : Type 0} (gs is : List Guard) (l : Variables) (o : Option A) (go : A → Option B) (Q : Variables → A → Type 0) (R : Variables → B → Type 0) → Meets gs l o Q
       → ((m : Variables) (a : A) → Q m a → Meets is m (go a) R) → Meets (gs ++ is) l (then_value o go) R
   meets_then gs is l None go Q R p f = stops_first gs is l p
   meets_then gs is l (Some a) go Q R p f = then_meets gs is l a (go a) Q R p (λ m q. f m a q)
 
-  -- the same, and the second guards may use that this is the value
+  -- like `meets_then`, but the second guards may assume that a is the value
   pub meets_with : {A B : Type 0} (gs is : List Guard) (l : Variables) (o : Option A) (go : A → Option B) (Q : Variables → A → Type 0) (R : Variables → B → Type 0) → Meets gs l o Q
       → ((m : Variables) (a : A) → o ≡ Some a → Q m a → Meets is m (go a) R) → Meets (gs ++ is) l (then_value o go) R
   meets_with gs is l None go Q R p f = stops_first gs is l p
   meets_with gs is l (Some a) go Q R p f = then_meets gs is l a (go a) Q R p (λ m q. f m a refl q)
 
-  -- what is computed from a value needs no guards of its own
+  -- a result that can always be computed from a value needs no guards besides those of the value
   pub meets_made : {A B : Type 0} (gs : List Guard) (l : Variables) (o : Option A) (f : A → B) (Q : Variables → A → Type 0) (R : Variables → B → Type 0) → Meets gs l o Q
       → ((m : Variables) (a : A) → Q m a → R m (f a)) → Meets gs l (then_value o (λ a. Some (f a))) R
   meets_made gs l None f Q R p g = p

@@ -33,7 +33,7 @@ module _ (h : World) where
   by_not e l true a v = v
   by_not e l false a v = (0, v)
 
-  -- such a test may be followed by other guards
+  -- a test that is 1 exactly if there is no value may be followed by other guards
   stop_first : {A : Type 0} (e : Expression) (gs : List Guard) (l : Variables) (b : Bool) (o : Option A) (R : Variables → A → Type 0) → value e l h ≡ Some (truth_value b) → (b ≡ true → o ≡ None) → (b ≡ false → Meets h gs l o R) → Meets h (Stop e ∷ gs) l o R
   stop_first {A} e gs l true o R v none more = subst (λ (r : Option A). Meets h (Stop e ∷ gs) l r R) (sym (none refl)) (inl (0, v))
   stop_first e gs l false None R v none more = inr (v, more refl)
@@ -66,7 +66,7 @@ module _ (h : World) where
   unsigned_asked : (b : Expression) (l : Variables) (y w : ℕ) (R : Variables → ℕ → Type 0) → value b l h ≡ Some y → ((v : ℕ) → (if y == 0 then None else Some w) ≡ Some v → R l v) → Meets h (asked_divisor b) l (if y == 0 then None else Some w) R
   unsigned_asked b l y w R v f = tested h (Unary IsZero b) l (if y == 0 then None else Some w) R (by_bool (Unary IsZero b) l (y == 0) w (is_nothing b l y v)) f
 
-  -- a test that a word is below n shows whether it is
+  -- the test that b is below n is 0 exactly if its word y is below n
   below_asked : (b : Expression) (l : Variables) (y n : ℕ) → value b l h ≡ Some y → value (Binary LeU (Constant n) b) l h ≡ Some (truth_value (not (nat_lt y n)))
   below_asked b l y n v = ap (λ o. then_value o (λ y. Some (truth_value (nat_le n y)))) v ∙ ap (λ c. Some (truth_value c)) (not_less n y)
 
@@ -144,7 +144,7 @@ module _ (h : World) where
   is_there true ws j lt = found_in ws j lt
   is_there false ws j lt = absurd (omega arith)
 
-  -- so an index below that number has an element
+  -- each index below the number of an object's elements has an element
   pub found : (objects : List Size) → map size_of h.globals ≡ objects → (w : Width) (o j : ℕ) → j < elements_in objects w o → (v : ℕ) × (element h w o j ≡ Some v)
   found objects sizes w o j lt =
       is_there (same_width (object_of h o).width w) (object_words h o) j (subst (λ (z : Size). j < elements_of z w) (size_found objects h sizes o) lt)

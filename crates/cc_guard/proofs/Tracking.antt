@@ -1,5 +1,5 @@
--- The whole: if code keeps up with a meaning, or reaches an operation without a value, then once it is guarded it keeps up with
--- the meaning.
+-- The whole: if code keeps up with a meaning, or reaches an operation without a value, then the guarded code keeps up with the
+-- meaning.
 use Rattle.std.proofs.Common.{◌≡◌, ℕ, suc, Bool, true, false, List, [], map, inl, inr, refl, sym, subst, arith}
 use Rattle.std.specs.Prelude.{if◌then◌else◌}
 use Rattle.cc_simulation.specs.World.{World, size_of, Question, Answer, Effect, Gives}

@@ -1,5 +1,5 @@
--- What a guarded expression does: its guards let the run pass exactly if the expression has a value, and after them its value is
--- that one.
+-- What a guarded expression does: its guards let the run pass exactly if the expression has a value, and after them the guarded
+-- expression has that value.
 use Rattle.std.proofs.Common.{◌≡◌, ℕ, suc, ◌-◌, ◌<◌, ◌≤◌, Bool, true, false, ◌==◌, cond, List, [], ◌∷◌, ◌++◌, map, Option, Some, None, refl, sym, ap, ◌∙◌, subst, append-nil, arith}
 use Rattle.std.specs.Prelude.{if◌then◌else◌}
 use Rattle.std.proofs.lemmas.Bool.Decides.{nat_tests}
@@ -37,7 +37,7 @@ agree_on n k i m l le p q = λ x lt. p x (omega arith) ∙ q x lt
 agree_put : (n t w : ℕ) (m l : Variables) → n ≤ t → Agree n m l → Agree n (put m t w) l
 agree_put n t w m l le p = λ x lt. put_elsewhere m t w x (omega arith) ∙ p x lt
 
--- an expression that reads only variables below n has the same value with both
+-- an expression that reads only variables below n has the same value in both m and l
 pub same_value : (e : Expression) (n : ℕ) (m l : Variables) (h : World) → Under n e → Agree n m l → value e m h ≡ value e l h
 same_value (Constant w) n m l h u p = refl
 same_value (Local x) n m l h u p = ap Some (p x u)
@@ -155,7 +155,7 @@ module _ (objects : List Size) where
     abbrev pub IsGuarded : ℕ → Guarded → Variables → Option ℕ → Type 0
     IsGuarded n g l o = Meets h g.before l o (λ m w. HasValue n g.value g.known l m w)
 
-    -- a value can be put into a variable
+    -- once a value is put into a variable, the variable has that value
     put_waits : (n : ℕ) (g : Guarded) (l : Variables) (o : Option ℕ) → IsSound n g → IsGuarded n g l o
         → Meets h (g.before ++ Put g.next g.value ∷ []) l o (λ m w. HasValue n (Local g.next) g.known l m w)
     put_waits n g l o s p =
@@ -183,7 +183,7 @@ module _ (objects : List Size) where
 
     -- ---- two operands
 
-    -- the guards of both operands come first
+    -- the guards of both operands, followed by those of what is computed from their values, are guards of the result
     pub both_guarded : {B : Type 0} (n : ℕ) (a b : Guarded) (is : List Guard) (l : Variables) (oa ob : Option ℕ) (go : ℕ → ℕ → Option B) (R : Variables → B → Type 0) → IsSound n a → IsSound a.next b → IsGuarded n a l oa
         → ((m : Variables) → Agree n m l → Holds a.known m → IsGuarded a.next b m ob)
         → ((k : Variables) (x y : ℕ) → Agree n k l → oa ≡ Some x → ob ≡ Some y → value a.value k h ≡ Some x → value b.value k h ≡ Some y → Holds a.known k → Holds b.known k → Meets h is k (go x y) R)
@@ -200,7 +200,7 @@ module _ (objects : List Size) where
     made op a b k x y w va vb e =
         ap (λ o. then_value o (λ u. then_value (value b k h) (λ v. apply_binary op u v))) va ∙ ap (λ o. then_value o (λ v. apply_binary op x v)) vb ∙ e
 
-    -- no guard of its own is needed if there is a value
+    -- an operation that has a value needs no guard
     pub here : {B : Type 0} (k : Variables) (o : Option B) (w : B) (R : Variables → B → Type 0) → o ≡ Some w → R k w → Meets h [] k o R
     here {B} k o w R e r = subst (λ (x : Option B). Meets h [] k x R) (sym e) r
 

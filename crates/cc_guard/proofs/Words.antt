@@ -1,5 +1,5 @@
--- Code whose constants are words makes words from words: variables and objects hold words, and it passes words to calls and
--- returns words. So each call that it makes is one that the source can make.
+-- Code whose constants are words computes words from words: variables and objects hold words, and it passes words to calls
+-- and returns words. So each call that it makes is one that the source can make.
 use Rattle.std.proofs.Common.{◌≡◌, ℕ, zero, suc, ◌^◌, ◌<◌, Bool, true, false, ◌==◌, List, [], ◌∷◌, length, get_or, Option, Some, None, option_map, unwrap_or, slice_get, refl, sym, ap, ◌∙◌, subst, arith}
 use Rattle.std.specs.Prelude.{if◌then◌else◌, set}
 use Rattle.std.proofs.lemmas.List.{length-map}
@@ -216,7 +216,7 @@ module _ (unit : List External) where
     pub holds : HoldWords c.variables
     pub world : IsWorld objects c.world
 
-  -- a call or a function gives a word and a world of words
+  -- the answer has a word and a world of words
   abbrev pub IsGiven : Answer → Type 0
   IsGiven a = (a.value < 2 ^ 32) × IsWorld objects a.world
 

@@ -107,7 +107,7 @@ some_codes b (g ∷ gs) (s ∷ ss) e = refl
 pub sees_wrote : (b m : ℕ) (gs : List Guard) (new : Guards) (old seen : Seen) → Wrote b gs m new → Sees (some_of new.before.items) new.next old seen → Sees (some_guard gs) m old seen
 sees_wrote b m gs new old seen w s = record { guards = s.guards ∙ ap (λ x. old.guards || x) (some_codes b gs new.before.items w.before); variables = s.variables ∙ ap (λ x. max old.variables x) w.next }
 
--- the guards of a statement with one expression, or with a list of them, were written
+-- the guards of a statement with one expression, or with a list of expressions, were written
 pub first_wrote : (objects : List Size) (b n : ℕ) (ks : List Limit) (e : Expression) (old new : Guards) → old.before.items ≡ [] → old.next ≡ n → old.known.items ≡ ks → AddsAll b (guarded objects old.known.items old.next e) old new
     → Wrote b (guarded objects ks n e).before (guarded objects ks n e).next new
 first_wrote objects b n ks e old new p q r a = wrote_first b n ks (λ hs k. guarded objects hs k e) old new p q r a
@@ -234,7 +234,7 @@ module _ (objects : List Size) (n b : ℕ) where
   variables_first ks s [] = sym (max-zero (variables_after objects n ks s))
   variables_first ks s (t ∷ ss) = refl
 
-  -- what was seen of the first statement and what will be seen of the rest is what is seen of all
+  -- what was seen of the first statement, with what will be seen of the rest, is what is seen of all of them
   pub sees_first : (ks : List Limit) (s : Statement) (ss : List Statement) (old mid : Seen) → SeesStatement objects n ks s old mid
       → ((seen : Seen) → SeesStatement objects n (known_after objects n ks s) (in_sequence ss) mid seen → SeesStatement objects n ks (in_sequence (s ∷ ss)) old seen)
   sees_first ks s ss old mid p seen q =

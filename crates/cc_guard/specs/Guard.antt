@@ -25,7 +25,7 @@ pub data Guard : Type 0 where
 abbrev pub forever : Statement
 forever = Loop Skip
 
--- a guard as code, if this many blocks of the function are around it
+-- a guard as code, inside this many blocks of the function
 abbrev pub guard_code : (blocks : ℕ) → Guard → Statement
 guard_code b (Put t e) = Set t e
 guard_code b (Stop e) = If e (Exit b) Skip
@@ -37,7 +37,7 @@ guards_then b [] s = s
 guards_then b (g ∷ gs) s = Sequence (guard_code b g) (guards_then b gs s)
 
 -- An expression with the guards that come before it. The guards set only variables from some number on and below `next`. `known`
--- are the bounds that are known after them.
+-- holds the bounds known after them.
 pub record Guarded : Type 0 where
   pub before : List Guard
   pub value : Expression
@@ -52,7 +52,7 @@ least None b = b
 least (Some m) None = Some m
 least (Some m) (Some k) = Some (min m k)
 
--- a bound that is a word; the sum and the product of two bounds, if they are words
+-- a bound, and the sum and the product of two bounds, each only if it fits in a word
 abbrev pub if_word : ℕ → Option ℕ
 if_word m = if nat_lt m (2 ^ 32) then Some m else None
 
@@ -66,7 +66,7 @@ most_product None b = None
 most_product (Some m) None = None
 most_product (Some m) (Some k) = if_word (m * k)
 
--- the bound of a remainder, if its divisor is a constant other than 0
+-- the bound on a remainder, if its divisor is a constant other than 0
 abbrev pub below_divisor : Expression → Option ℕ
 below_divisor (Constant (suc w)) = Some w
 below_divisor e = None
@@ -99,7 +99,7 @@ most ks (Binary LeU a b) = Some 1
 most ks (Binary op a b) = None
 most ks (Load w o i) = None
 
--- the bound is evidently below a number
+-- there is a bound, and it is below the number
 abbrev pub is_below : Option ℕ → ℕ → Bool
 is_below None n = false
 is_below (Some m) n = nat_lt m n
@@ -112,12 +112,12 @@ less_one None = None
 less_one (Some zero) = None
 less_one (Some (suc m)) = Some m
 
--- the bound that is known if the expression's value is at most this word; there is one only if the expression is a variable
+-- the bound that is known if the expression's value is at most this word: only a variable has one
 abbrev pub told_of : Expression → Option ℕ → Option Limit
 told_of (Local x) (Some m) = Some (record { variable = x; most = m })
 told_of e m = None
 
--- the bound that becomes known if the first of two values is below the second (`way`), or is not; then the same for "at most"
+-- the bound that becomes known if the first of two values is below the second (`way` is true) or not (false); next, for "at most"
 abbrev pub told_less : (way : Bool) → (a b : Expression) → (most_a most_b : Option ℕ) → Option Limit
 told_less true a b m k = told_of a (less_one k)
 told_less false a b m k = told_of b m
@@ -130,7 +130,7 @@ told_most false a b m k = told_of b (less_one m)
 abbrev pub if_small : Option ℕ → Option ℕ → Option Limit → Option Limit
 if_small m k told = if is_below m (2 ^ 31) && is_below k (2 ^ 31) then told else None
 
--- the bound that becomes known if a condition is not 0 (`way`), or if it is 0
+-- the bound that becomes known if a condition is not 0 (`way` is true) or is 0 (false)
 abbrev pub told : List Limit → (way : Bool) → Expression → Option Limit
 told ks way (Binary LtS a b) = if_small (most ks a) (most ks b) (told_less way a b (most ks a) (most ks b))
 told ks way (Binary LtU a b) = told_less way a b (most ks a) (most ks b)
@@ -153,7 +153,7 @@ abbrev pub is_signed_divisor : Expression → Bool
 is_signed_divisor (Constant w) = not (w == 0) && not (w == 2 ^ 32 - 1)
 is_signed_divisor e = false
 
--- an operator evidently has a value with this right operand, whatever the left one is
+-- an operation with this right operand evidently has a value, whatever its left operand is
 -- ORDER Binary
 abbrev pub always : List Limit → two.Binary → (right : Expression) → Bool
 always ks Add b = true
@@ -178,7 +178,7 @@ always ks LeU b = true
 
 -- ---- the guards of an operator: the run stops exactly if the operator has no value
 
--- the guards of a signed quotient: the divisor is not 0, and the quotient is not that of -2147483648 and -1
+-- the guards of a signed quotient: the divisor must not be 0, and the operands must not be -2147483648 and -1
 abbrev pub asked_signed : (a b : Expression) → List Guard
 asked_signed a b = Stop (Unary IsZero b) ∷ StopBoth (Binary Eq b (Constant (2 ^ 32 - 1))) (Binary Eq a (Constant (2 ^ 31))) ∷ []
 
@@ -248,14 +248,14 @@ with_unary op g = record { before = g.before; value = Unary op g.value; next = g
 abbrev pub with_binary : two.Binary → Guarded → Guarded → Guarded
 with_binary op a b = record { before = a.before ++ b.before; value = Binary op a.value b.value; next = b.next; known = b.known }
 
--- the same, after the guards of the operator as well
+-- an operator on two operands, after the guards of both and its own
 abbrev pub with_test : two.Binary → Guarded → Guarded → Guarded
 with_test op a b = record { before = a.before ++ (b.before ++ asked op a.value b.value); value = Binary op a.value b.value; next = b.next; known = b.known }
 
 abbrev pub with_load : Width → (object : ℕ) → Guarded → Guarded
 with_load w o i = record { before = i.before; value = Load w o i.value; next = i.next; known = i.known }
 
--- if a value is below n and is a variable's, that bound is known from then on
+-- if a value is below n and is a variable, this bound is known from then on
 abbrev pub learned : Expression → ℕ → List Limit → List Limit
 learned (Local x) n ks = ks ++ record { variable = x; most = n - 1 } ∷ []
 learned e n ks = ks
@@ -263,7 +263,7 @@ learned e n ks = ks
 abbrev pub bounded : ℕ → Guarded → Guarded
 bounded n g = record { before = g.before ++ Stop (Binary LeU (Constant n) g.value) ∷ []; value = g.value; next = g.next; known = learned g.value n g.known }
 
--- an index of an object, after its own guards, with a guard that it is in the object unless that is evident
+-- an index into an object, after its own guards; a guard tests that it lies in the object, unless that is evident
 abbrev pub indexed : List Size → List Limit → Width → (object : ℕ) → Expression → Guarded → Guarded
 indexed objects ks w o i g = if is_below (most ks i) (elements_in objects w o) then g else bounded (elements_in objects w o) (waiting g)
 
@@ -300,7 +300,7 @@ stored_word objects i e = guarded objects i.known i.next e
 
 -- ---- what is known after a statement
 
--- the statement, or a part of it, sets this variable
+-- this variable gets the result; the next definition: the statement, or a part of it, sets this variable
 abbrev pub sets_result : Option ℕ → (variable : ℕ) → Bool
 sets_result None x = false
 sets_result (Some y) x = y == x
@@ -319,7 +319,7 @@ sets (Block s) x = sets s x
 sets (Exit k) x = false
 sets (Return e) x = false
 
--- the known bounds of variables below n that were not changed
+-- the known bounds of unchanged variables below n
 abbrev pub stays : (n : ℕ) → (changed : ℕ → Bool) → Limit → Bool
 stays n changed k = nat_lt k.variable n && not (changed k.variable)
 
@@ -330,7 +330,7 @@ abbrev pub kept : (n : ℕ) → (changed : ℕ → Bool) → List Limit → List
 kept n changed [] = []
 kept n changed (k ∷ ks) = kept_if (stays n changed k) k (kept n changed ks)
 
--- what is known once a variable is set to a word of at most `most`, if there is such a bound
+-- what is known once a variable is set to a word with this bound, if there is one
 abbrev pub set_to : (variable : ℕ) → Option ℕ → List Limit → List Limit
 set_to x None ks = ks
 set_to x (Some m) ks = ks ++ record { variable = x; most = m } ∷ []
@@ -344,7 +344,7 @@ abbrev pub joined : (one other : List Limit) → List Limit
 joined [] other = []
 joined (k ∷ ks) other = either k (most_in other k.variable) (joined ks other)
 
--- no part of a statement sets a variable
+-- no part of the statement sets this variable
 abbrev pub unset : Statement → (variable : ℕ) → Bool
 unset s x = not (sets s x)
 
@@ -378,8 +378,8 @@ leaves k (Block s) = leaves (suc k) s
 leaves k (Exit j) = j == k
 leaves k (Return e) = false
 
--- what is known after an `If`: `one` and `other` are known at the ends of its ways, as far as control can reach them; `before`
--- are the bounds known before it, for variables that no part of it sets
+-- what is known after an `If`: `one` and `other` are known at the ends of its ways, if control reaches them (`first`, `second`);
+-- `before` holds the bounds of variables that no part of it sets
 abbrev pub met : (first second : Bool) → (n : ℕ) → Statement → (before one other : List Limit) → List Limit
 met true true n s before one other = before ++ joined (kept n (unset s) one) other
 met true false n s before one other = one
@@ -409,7 +409,7 @@ known_after objects n ks (Return e) = kept n (sets (Return e)) (guarded objects 
 
 -- ---- what is known at a loop's head
 
--- after a turn a bound is no greater than at the head: for one variable; for all of them; and the bounds for which this is so
+-- bounds that a turn does not raise: whether one is such a bound, whether all of them are, and the list of those that are
 abbrev pub at_most : Option ℕ → ℕ → Bool
 at_most None n = false
 at_most (Some m) n = nat_le m n
@@ -422,7 +422,7 @@ abbrev pub still : (after head : List Limit) → List Limit
 still after [] = []
 still after (k ∷ ks) = kept_if (at_most (most_in after k.variable) k.most) k (still after ks)
 
--- for a bound that grew in a turn a far greater one is tried, but one so far below 2^31 that sums with it are below 2^31 too
+-- in place of a bound that grew in a turn, 2^30 is tried if it is greater: sums with it can still be below 2^31
 abbrev pub widened_if : (again : Bool) → Limit → Limit
 widened_if again k = if again then k else record { variable = k.variable; most = max k.most (2 ^ 30) }
 
@@ -441,8 +441,7 @@ narrowed objects n ks s before = joined before (turn objects n ks s (widened (tu
 abbrev pub found : List Size → (n : ℕ) → List Limit → Statement → List Limit
 found objects n ks s = still (turn objects n ks s (narrowed objects n ks s (kept n (unset s) ks))) (narrowed objects n ks s (kept n (unset s) ks))
 
--- the bounds found are verified: if a turn does not leave all of them known, nothing is known about the variables that the loop
--- sets
+-- the bounds found are verified: if a turn does not leave all of them known, nothing is known about the variables that the loop sets
 abbrev pub if_again : (after head : List Limit) → List Limit
 if_again after head = if all_again after head then head else []
 
@@ -454,8 +453,7 @@ head objects n ks s = kept n (sets s) ks ++ if_again (turn objects n ks s (found
 abbrev pub with_store : (blocks : ℕ) → Width → (object : ℕ) → Guarded → Guarded → Statement
 with_store b w o i e = guards_then b (i.before ++ e.before) (Store w o i.value e.value)
 
--- a statement with its guards, in b blocks, given what is known before it; the guards of each statement in it set variables from
--- n on
+-- a statement with its guards, in b blocks, given what is known before it; the guards of each statement in it set variables from n on
 abbrev pub code_after : List Size → (n : ℕ) → List Limit → (blocks : ℕ) → Statement → Statement
 code_after objects n ks b Skip = Skip
 code_after objects n ks b (Set x e) = guards_then b (guarded objects ks n e).before (Set x (guarded objects ks n e).value)
@@ -472,7 +470,7 @@ code_after objects n ks b (Block s) = Block (code_after objects n ks (suc b) s)
 code_after objects n ks b (Exit k) = Exit k
 code_after objects n ks b (Return e) = guards_then b (guarded objects ks n e).before (Return (guarded objects ks n e).value)
 
--- a function's own code with its guards: at its start nothing is known
+-- a function's own code with its guards; nothing is known at the function's start
 abbrev pub guarded_code : List Size → (n blocks : ℕ) → Statement → Statement
 guarded_code objects n b s = code_after objects n [] b s
 
@@ -499,7 +497,7 @@ guards_after objects n ks (Return e) = some_guard (guarded objects ks n e).befor
 abbrev pub has_guards : List Size → (n : ℕ) → Statement → Bool
 has_guards objects n s = guards_after objects n [] s
 
--- the least number above every variable that the guards set, if they set one
+-- the least number above every variable that the guards set; 0 if they set none
 abbrev pub variables_after : List Size → (n : ℕ) → List Limit → Statement → ℕ
 variables_after objects n ks Skip = 0
 variables_after objects n ks (Set x e) = (guarded objects ks n e).next

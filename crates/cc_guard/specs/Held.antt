@@ -1,5 +1,5 @@
--- Code in which some of the constants that conditions compare with are held in variables: each constant is put there once, before
--- the code. A branch that compares two variables is one instruction; a branch that compares a variable with a constant is two.
+-- Code in which some of the constants that conditions compare with are held in variables: each is put into its variable once,
+-- before the code. A branch that compares two variables is one instruction; one that compares a variable with a constant is two.
 use Rattle.std.specs.Prelude.{◌≡◌, ◌⊎◌, ℕ, suc, ◌+◌, ◌≤◌, ◌==◌, List, [], ◌∷◌, length, if◌then◌else◌}
 use Rattle.cc_cminor.specs.Cminor.{Expression, Constant, Local, Binary, Statement, Skip, Set, Store, Call, Read, Write, Sequence, If, Loop, Block, Exit, Return}
 use Rattle.cc_cminor.specs.Numbers.{most_variables}
@@ -18,7 +18,7 @@ abbrev pub held_test : (words : List ℕ) → (m : ℕ) → Expression → Expre
 held_test ws m (Binary op a b) = Binary op (held_operand ws m a) (held_operand ws m b)
 held_test ws m e = e
 
--- a statement whose conditions all read the words in those variables
+-- a statement, changed so that all its conditions read the words from those variables
 abbrev pub held_in : (words : List ℕ) → (m : ℕ) → Statement → Statement
 held_in ws m Skip = Skip
 held_in ws m (Set x e) = Set x e
@@ -45,7 +45,7 @@ with_words ws m s = put_first ws m (held_in ws m s)
 abbrev pub most_held : ℕ
 most_held = 8
 
--- code that holds some words in variables; the record leaves open which words: the pass chooses those that conditions in loops
+-- t is s with some words held in variables; the record leaves open which words: the pass chooses those that conditions in loops
 -- compare with most often
 pub record Holding (s t : Statement) : Type 0 where
   pub words : List ℕ

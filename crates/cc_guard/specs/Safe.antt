@@ -50,11 +50,11 @@ pub record NeedsNoGuard (unit : List External) (f : ℕ) (s : Statement) : Type 
   pub keeps_up : KeepsUp Checked unit f s
   pub goes_wrong : GoesWrong unit f s
 
--- each function of a unit has such code
+-- each function of a unit has code that needs no guard
 abbrev pub NoneNeedsGuard : List External → Type 0
 NoneNeedsGuard unit = (f : ℕ) → f < length (functions unit) → (s : Statement) × NeedsNoGuard unit f s
 
--- A typed unit whose functions all have such code never goes wrong in a division, a shift or an index, on any input and at any
+-- A typed unit in which no function needs a guard never goes wrong in a division, a shift or an index, on any input and at any
 -- bound: it goes wrong only because calls are nested too deep. The world that the functions share before the run is a world of
 -- words, since the initial values and the input are words.
 abbrev pub OnlyDepthIsLeft : Type 0

@@ -1,9 +1,9 @@
-// Bounds that are known for variables after a statement. Nothing is written: the guards of the statement's expressions are made
-// again, only to find the bounds that they leave known.
+// The bounds known for variables after a statement. No code is written: the guards of the statement's expressions are made
+// again, only to find which bounds are known after them.
 //
 // Loops are not entered, since control never reaches the end of a loop. After a block from which an exit leaves just that block,
-// nothing is known about the variables that the block sets. The bounds known at a loop's head are found by four turns; the last
-// one verifies them. So a statement is walked four more times for the innermost loop that it is in, but not again for the loops
+// nothing is known about the variables that the block sets. The bounds known at a loop's head are found in four turns; the last
+// turn verifies them. So a statement is walked four more times for the innermost loop that it is in, but not again for the loops
 // around that one.
 
 ghost use Rattle.std.specs.Prelude.{◌≡◌, IfOk};
@@ -23,7 +23,7 @@ use cc_cminor::{Expression, Statement};
 use cc_words::Width;
 use std::alloc::{AllocError, Global};
 
-// The bounds that guards leave known.
+// The bounds known after the guards.
 fn left_known(guards: Guards) -> Vec<Limit>
     ensures { result.items ≡ guards.known.items }
 {

@@ -1,6 +1,7 @@
 // What is known about variables after a statement that sets some of them, and how control leaves a statement.
 //
-// One walk marks all the variables that a statement sets, since there are many bounds, and loops within loops.
+// One walk marks all the variables that a statement sets: a walk for each bound would be slow, since there are many bounds
+// and nested loops.
 
 ghost use Rattle.std.specs.Prelude.{◌≡◌, ◌&&◌, ℕ, nat_lt, Bool, false, not, Some, length, get_or, IfOk, OnOk};
 ghost use Rattle.cc_cminor.specs.Code.{statement_of, in_sequence};
@@ -22,7 +23,7 @@ fn sets_result(to: Option<usize>, variable: usize) -> bool
     }
 }
 
-// Marks a variable, if there is a mark for it.
+// Sets the mark of a variable, if it has one.
 fn mark_variable(marks: &mut Vec<bool>, variable: usize)
     ensures { Marks (sets_result (Some variable)) marks.old.items marks.new.items }
 {
@@ -94,14 +95,14 @@ fn marked(alloc: Global, first: usize, s: &Statement) -> Result<Vec<bool>, Alloc
     Ok(marks)
 }
 
-// Whether there is a mark for a variable and it is not set.
+// Whether a variable has a mark and that mark is not set.
 fn stays(marks: &[bool], variable: usize) -> bool
     ensures { (n : ℕ) (changed : ℕ → Bool) → IsMarked n changed marks.now → result ≡ (nat_lt variable n && not (changed variable)) }
 {
     variable < marks.len() && !marks[variable]
 }
 
-// Whether there is a mark for a variable and it is set.
+// Whether a variable has a mark and that mark is set.
 fn changes(marks: &[bool], variable: usize) -> bool
     ensures { (n : ℕ) (changed : ℕ → Bool) → IsMarked n changed marks.now → result ≡ (nat_lt variable n && not (not (changed variable))) }
 {
@@ -127,7 +128,7 @@ pub fn kept(
     Ok(limits)
 }
 
-/// The known bounds of variables below `first`, without that of the variable `to`, if there is one.
+/// The known bounds of variables below `first`, except the variable `to`, if it is given.
 pub fn kept_but(
     alloc: Global,
     first: usize,
@@ -145,7 +146,7 @@ pub fn kept_but(
     Ok(limits)
 }
 
-/// Adds the bound of a variable that was set to a word of at most `most`, if such a bound is known.
+/// Adds the bound `most`, if there is one, for a variable that was just set.
 pub fn set_to(known: &mut Vec<Limit>, variable: usize, most: Option<u32>) -> Result<(), AllocError>
     ensures { OnOk result (known.new.items ≡ set_to variable most known.old.items) }
 {
@@ -174,7 +175,7 @@ pub fn kept_set(
     Ok(limits)
 }
 
-/// Adds the bound that a condition gives, if it gives one.
+/// Adds the bound that a condition shows, if it shows one.
 pub fn add_told(known: &mut Vec<Limit>, told: Option<Limit>) -> Result<(), AllocError>
     ensures { OnOk result (known.new.items ≡ with_told known.old.items told) }
 {

@@ -1,5 +1,5 @@
-// The constants of code are words. This is known about a constant once it is read, so these walks read all of them; they change
-// nothing.
+// The constants of code are words. This is known about a constant once it is read, so these walks read every constant; they
+// change nothing.
 //
 // The recursion is as deep as the tree, like that of `statements`.
 

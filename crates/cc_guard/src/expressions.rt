@@ -39,8 +39,8 @@ fn waiting_if(
     }
 }
 
-// An operator that can lack a value, after its own guards. Its right operand is first put into a variable, unless it is a
-// constant or a variable.
+// An operation that can lack a value, after its own guards. Its right operand is first put into a variable, unless it
+// already is a constant or a variable.
 fn tested(
     alloc: Global,
     blocks: usize,
@@ -57,7 +57,7 @@ fn tested(
     binary(alloc, operator, a, b)
 }
 
-/// An index of an object, with a guard that the index lies in the object, unless that is evident.
+/// An index into an object; a guard tests that it lies in the object, unless that is evident.
 #[cycle(expressions)]
 pub fn index(
     alloc: Global,

@@ -115,7 +115,8 @@ fn add_put(
 
 // ---- values and operands
 
-/// The value to use if a value is read twice: a constant or a variable as it is, else the variable into which it is put.
+/// What to use for a value that is read twice: a constant or a variable itself, else a new variable into which the value is
+/// put.
 pub fn waiting(
     alloc: Global,
     blocks: usize,
@@ -145,7 +146,7 @@ fn add_asked_divisor(
     add_stop(alloc, blocks, guards, test)
 }
 
-// The expression that tests whether `e` has this word.
+// The expression that tests whether the value of `e` is this word.
 fn is_word(alloc: Global, e: &Expression, word: u32) -> Result<Box<Expression>, AllocError>
     ensures { IfOk result (λ test. expression_of test.value ≡ cminor.Binary two.Eq (expression_of e.now) (cminor.Constant word)) }
 {
@@ -204,7 +205,7 @@ pub fn add_asked(
     }
 }
 
-// Records that a value is below a number: if the value is a variable's, this bound is known from then on.
+// Records that a value is below a number: if `value` is a variable, this bound is known from then on.
 fn learn(guards: &mut Guards, value: &Expression, number: u32) -> Result<(), AllocError>
     ensures known { OnOk result (guards.new.known.items ≡ learned (expression_of value.now) number guards.old.known.items) }
     ensures before { OnOk result (guards.new.before.items ≡ guards.old.before.items) }
@@ -219,7 +220,7 @@ fn learn(guards: &mut Guards, value: &Expression, number: u32) -> Result<(), All
     Ok(())
 }
 
-/// Adds a guard that the value is below `number`. If the value is a variable's, this bound is known from then on.
+/// Adds a guard that tests that the value is below `number`. If `value` is a variable, this bound is known from then on.
 pub fn bounded(
     alloc: Global,
     blocks: usize,
@@ -235,7 +236,7 @@ pub fn bounded(
 
 // ---- the statement
 
-/// No guards yet. `first` is the first variable that a guard may set, and `known` are the bounds known beforehand.
+/// No guards yet. `first` is the first variable that a guard may set, and `known` holds the bounds known beforehand.
 pub fn begun(alloc: Global, first: usize, known: &[Limit]) -> Result<Guards, AllocError>
     ensures before { IfOk result (λ guards. guards.before.items ≡ []) }
     ensures next { IfOk result (λ guards. guards.next ≡ first) }
@@ -249,7 +250,7 @@ pub fn begun(alloc: Global, first: usize, known: &[Limit]) -> Result<Guards, All
     })
 }
 
-/// Adds what the guards of a statement show to what was seen of the function.
+/// Updates what was seen of the function with the guards of one of its statements.
 pub fn note(guards: &Guards, seen: &mut Seen)
     ensures { Sees (some_of guards.now.before.items) guards.now.next seen.old seen.new }
 {

@@ -1,4 +1,5 @@
-// The bounds that two ways agree on, and which of the bounds known at a loop's head are still known after a turn of the loop.
+// The bounds that hold on both of two ways, and the bounds known at a loop's head that are still known after a turn of the
+// loop.
 
 ghost use Rattle.std.specs.Prelude.{◌≡◌, ◌++◌, IfOk};
 ghost use Rattle.cc_cminor.specs.Code.{statement_of};
@@ -60,7 +61,7 @@ fn at_most(most: Option<u32>, word: u32) -> bool
     }
 }
 
-/// Whether after a turn all the bounds known at the head are known again.
+/// Whether all the bounds known at the head are known again after a turn.
 pub fn all_again(after: &[Limit], head: &[Limit]) -> bool
     ensures { result ≡ all_again after.now head.now }
 {
@@ -84,8 +85,8 @@ pub fn still(alloc: Global, after: &[Limit], head: &[Limit]) -> Result<Vec<Limit
     Ok(limits)
 }
 
-/// The bounds to try at a loop's head, given those after a turn that started with the bounds known before the loop. For a bound
-/// that grew, a far greater one is tried.
+/// The bounds to try at a loop's head, given those after a turn that started with the bounds known before the loop. In place of
+/// a bound that grew, a far greater one is tried.
 pub fn widened(alloc: Global, after: &[Limit], before: &[Limit]) -> Result<Vec<Limit>, AllocError>
     ensures { IfOk result (λ limits. limits.items ≡ widened after.now before.now) }
 {

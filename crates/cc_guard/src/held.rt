@@ -116,7 +116,7 @@ fn copied_statement(alloc: Global, s: &Statement) -> Result<Box<Statement>, Allo
     boxed_statement(alloc, copy)
 }
 
-// A statement whose conditions read the words in the variables from `first` on.
+// A copy of the statement whose conditions read the words from variables, numbered from `first` on.
 #[cycle(holding)]
 fn held_in(
     alloc: Global,

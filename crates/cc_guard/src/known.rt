@@ -1,4 +1,4 @@
-// Bounds on an expression's value, as its form and the known bounds of variables show them.
+// The bounds on an expression's value that its form and the known bounds of variables show.
 
 ghost use Rattle.std.specs.Prelude.{◌≡◌};
 ghost use Rattle.cc_cminor.specs.Code.{expression_of};
@@ -14,7 +14,7 @@ pub struct Limit {
     pub most: u32,
 }
 
-// The lesser of two bounds. If there is only one bound, it is that one.
+// The lesser of two bounds, or the only one.
 fn least(a: Option<u32>, b: Option<u32>) -> Option<u32>
     ensures { result ≡ least a b }
 {
@@ -27,7 +27,7 @@ fn least(a: Option<u32>, b: Option<u32>) -> Option<u32>
     }
 }
 
-// The sum of two bounds, if it is a word.
+// The sum of two bounds, if it fits in a word.
 fn most_sum(a: Option<u32>, b: Option<u32>) -> Option<u32>
     ensures { result ≡ most_sum a b }
 {
@@ -40,7 +40,7 @@ fn most_sum(a: Option<u32>, b: Option<u32>) -> Option<u32>
     }
 }
 
-// The product of two bounds, if it is a word.
+// The product of two bounds, if it fits in a word.
 fn most_product(a: Option<u32>, b: Option<u32>) -> Option<u32>
     ensures { result ≡ most_product a b }
 {
@@ -66,7 +66,7 @@ pub fn most_in(known: &[Limit], variable: usize) -> Option<u32>
     found
 }
 
-// The bound of a remainder, if its divisor is a constant other than 0.
+// The bound on a remainder, if its divisor is a constant other than 0.
 fn below_divisor(divisor: &Expression) -> Option<u32>
     ensures { result ≡ below_divisor (expression_of divisor.now) }
 {
@@ -128,7 +128,7 @@ fn is_signed_divisor(e: &Expression) -> bool
     }
 }
 
-/// Whether an operator evidently has a value with this right operand, whatever the left one is.
+/// Whether an operation with this right operand evidently has a value, whatever its left operand is.
 pub fn always(known: &[Limit], operator: Binary, right: &Expression) -> bool
     ensures { result ≡ always known.now operator (expression_of right.now) }
 {
@@ -165,7 +165,8 @@ fn told_of(e: &Expression, most: Option<u32>) -> Option<Limit>
     }
 }
 
-// The bound that becomes known if the first of two values is below the second (`way`), or is not.
+// The bound that becomes known if the first of two values is below the second (`way` is true) or is not
+// (false).
 fn told_less(
     way: bool,
     a: &Expression,
@@ -182,7 +183,8 @@ fn told_less(
     }
 }
 
-// The bound that becomes known if the first of two values is at most the second (`way`), or is not.
+// The bound that becomes known if the first of two values is at most the second (`way` is true) or is not
+// (false).
 fn told_most(
     way: bool,
     a: &Expression,
@@ -210,7 +212,8 @@ fn if_small(most_a: Option<u32>, most_b: Option<u32>, told: Option<Limit>) -> Op
     }
 }
 
-/// The bound that a condition shows for a variable if it is not 0 (`way`), or if it is 0.
+/// The bound that a condition shows for a variable when the condition is not 0 (`way` is true) or is 0
+/// (false).
 pub fn told(known: &[Limit], way: bool, e: &Expression) -> Option<Limit>
     ensures { result ≡ told known.now way (expression_of e.now) }
 {

@@ -1,5 +1,5 @@
-//! From Cminor to Cminor: a test comes before each operation that can lack a value, and if the test fails the code runs for ever.
-//! So an image of this code is right for every source, except that calls may be nested too deep.
+//! From Cminor to Cminor: a test comes before each operation that can lack a value, and if the test fails, the code runs for
+//! ever. So an image of this code is right for every source, except that calls may be nested too deep.
 //!
 //! `pass` has `guard`. `statements` and, below it, `expressions` write the code. Below them are `guards` (what comes before a
 //! statement), `known` (what is evident), `sizes` (of the unit's objects) and `boxes`. `specs/Guard.antt` defines what the pass

@@ -24,7 +24,7 @@ use cc_cminor::{CminorPair, CodeFault as GuardFault, Statement, variables_above}
 use cc_types::TypedUnit;
 use std::alloc::{AllocError, Global};
 
-// The code of a function's own body with its guards; what is seen of the guards is added to `seen`.
+// The code of a function's own body with its guards. Updates `seen`.
 fn guarded_body(
     alloc: Global,
     pair: &CminorPair,
@@ -91,9 +91,9 @@ pub fn needs_no_guard(alloc: Global, pair: &CminorPair) -> Result<bool, AllocErr
     Ok(!seen.guards)
 }
 
-/// Returns the Cminor of a function with a test before each operation that can lack a value, except an operation that evidently
-/// has one. If a test fails the run goes on for ever: it writes nothing more and never ends. So the code keeps up with the
-/// checked function, as the type of the pair guarantees. Constants that conditions in loops compare with may be held in variables
+/// Returns the Cminor of a function with a test before each operation that can lack a value, unless the operation evidently has a
+/// value. If a test fails, the run goes on for ever: it writes nothing more and never ends. So the code keeps up with the checked
+/// function, as the type of the pair guarantees. Constants that conditions in loops compare with may be held in variables
 /// (`code`). A function without guards keeps its code unchanged (`unguarded`).
 ///
 /// Fails with `FunctionTooLarge` (22) if the guards would set more variables than code may have, and with `OutOfMemory` (40) if

@@ -1,6 +1,6 @@
 // Statements, each with its guards before it, given the bounds known for variables at that point.
 //
-// The recursion is as deep as the tree: at most eight levels of Cminor for each of the source's 64.
+// The recursion is as deep as the tree: at most eight levels of Cminor for each of the source's 64 levels.
 
 ghost use Rattle.std.specs.Prelude.{◌≡◌, IfOk, OnOk};
 ghost use Rattle.cc_cminor.specs.Cminor as cminor;
@@ -124,8 +124,8 @@ pub struct Done {
     pub known: Vec<Limit>,
 }
 
-// Returns this code as done. The bounds known after it are found by a separate walk, so this is only for statements without
-// statements in them.
+// Returns this code as done. A separate walk of the statement finds the bounds known after it, so this function is used
+// only for statements that contain no others.
 fn alone(
     alloc: Global,
     sizes: &[ObjectSize],

@@ -14,7 +14,7 @@ const MOST_HELD: usize = 8;
 // At most this many words are counted: the first ones, if a function has more.
 const MOST_WEIGHED: usize = 64;
 
-// The least weight with which a word is chosen: that of one comparison in a loop.
+// The least weight at which a word is chosen: the weight of one comparison in a loop.
 const LEAST: u32 = 8;
 
 // A word, and how often conditions compare with it.
@@ -31,8 +31,8 @@ fn word_of(e: &Expression) -> Option<u32> {
     }
 }
 
-// Whether a branch on the operator takes one more instruction with this word than with a variable. The machine has 0 in a
-// register, and some comparisons with 1 and -1 are made as comparisons with 0.
+// Whether a branch on the operator costs one more instruction with this word than with a variable. The machine has a register
+// that holds 0, and some comparisons with 1 and -1 become comparisons with 0.
 fn gains(operator: Binary, word: u32) -> bool {
     match operator {
         Binary::Eq | Binary::Ne | Binary::Xor => word != 0,
@@ -43,7 +43,7 @@ fn gains(operator: Binary, word: u32) -> bool {
     }
 }
 
-// The constant that a condition compares with.
+// The constant that a condition compares with, if it is worth holding in a variable.
 fn compared(e: &Expression) -> Option<u32> {
     match e {
         Expression::Binary(operator, a, b) => {

@@ -31,7 +31,7 @@ planned text v is = ∣ record { verdict = v; is = is; plan_is = refl } ∣₁
 nothing_prop : IsProp ⊥
 nothing_prop = hlevel
 
--- two such results are equal if it is known that an equation between them exists
+-- two plans are equal if an equation between them is known to exist
 known : (a b : Result ℕ ℕ) → ∥ a ≡ b ∥₁ → a ≡ b
 known (Ok m) (Ok n) e = ap Ok (∥∥₁_elim e (ℕ_set m n) (λ (h : ◌≡◌ {A = Result ℕ ℕ} (Ok m) (Ok n)). cc))
 known (Err m) (Err n) e = ap Err (∥∥₁_elim e (ℕ_set m n) (λ (h : ◌≡◌ {A = Result ℕ ℕ} (Err m) (Err n)). cc))
@@ -81,7 +81,7 @@ type_refused text (typing.Undefined p) (inr h) = not_typed text (typing.Undefine
 type_refused text (typing.TooMany p) (inl e) = absurd (cc)
 type_refused text (typing.TooMany p) (inr h) = not_typed text (typing.TooMany p) h
 
--- a text that is refused has this plan; 40 claims nothing
+-- if a text is refused with a fault, its plan is the number of that fault; for 40 nothing is claimed
 pub refused : (text : List ℕ) (fault : TextFault) → IsTextRefusal text fault → RefusesPlan (refused_by (text_fault_number fault)) (IsPlan text)
 refused text (link.Syntax fault) h = text_refused text fault h
 refused text (link.Typing fault) h = type_refused text fault h

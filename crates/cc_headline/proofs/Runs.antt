@@ -1,4 +1,5 @@
--- A run with compiled pieces is a run with pieces that keep what the build asks, since linking keeps its promise.
+-- A run with compiled pieces is a run with pieces that keep what the build requires, since linking keeps its
+-- promise.
 use Rattle.std.proofs.Common.{inl, inr, List, [], ◌∷◌}
 use Rattle.cc_core.specs.declared.contents.Contents.{Contents}
 use Rattle.cc_core.specs.declared.event.Event.{Event}

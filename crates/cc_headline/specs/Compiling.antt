@@ -21,14 +21,13 @@ abbrev pub numbered : Result StoredUnit LinkFault → Result StoredUnit ℕ
 numbered (Ok unit) = Ok unit
 numbered (Err fault) = Err (link_fault_number fault)
 
--- the unit that pieces give: they are linked for the unit and in the mode of the first one, if that unit is of the source;
--- otherwise they are refused with 28, and with 26 if there is no piece
+-- the unit that pieces make up: they are linked for the unit and in the mode of the first piece, if that unit has this source; otherwise
+-- they are refused with 28, or with 26 if there is no piece
 abbrev pub unit_of : List ℕ → List Piece → Result StoredUnit ℕ
 unit_of text [] = Err 26
 unit_of text (piece ∷ pieces) = if same_bytes (text_of piece) text then numbered (linked_in piece.mode (source piece.unit) (piece ∷ pieces)) else Err 28
 
--- a source has a piece for each function that it defines, which is known by the function's number in the order of definitions;
--- and pieces are linked
+-- a source has a piece for each function that it defines, numbered in the order of definitions; and pieces are linked
 abbrev pub compiling : Rules Piece
 compiling = record { plan = IsPlan; source_of = text_of; part_of = λ piece. piece.function; unit = unit_of }
 
@@ -36,8 +35,8 @@ compiling = record { plan = IsPlan; source_of = text_of; part_of = λ piece. pie
 abbrev pub is_right : StoredUnit → Type 0
 is_right unit = Agree unit.source unit.image
 
--- what the types of a piece and of its unit keep, together with what linking promises for such pieces; the law of the build needs it, since
--- a law is a term and can call nothing
+-- the piece has what its type and its unit's type keep, and linking keeps its promise; the law of the build needs that promise here, since
+-- a law is a term and cannot call a function
 pub record Keeps (piece : Piece) : Type 0 where
   pub compiled : IsCompiled piece
   pub follow : LinkedUnitsFollow

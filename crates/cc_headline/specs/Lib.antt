@@ -4,7 +4,7 @@ pub mod Plan
 pub mod Compiling
 -- what the headline says about every image of the disk
 pub mod Recovered
--- the pieces of a compiled unit, in the form that the core asks for
+-- the pieces of a compiled unit, in the form that the core requires
 pub mod Built
 -- for private contracts
 pub mod internal

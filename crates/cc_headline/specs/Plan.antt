@@ -11,12 +11,12 @@ pieces_of (NoTree fault) = Err (syntax.fault_number fault)
 pieces_of (NotTyped fault) = Err (typing.fault_number fault)
 pieces_of (Program tree) = Ok (length (function_names tree))
 
--- the plan follows from the text's verdict
+-- the plan is the one that follows from the text's verdict
 pub record IsPlanBy (text : List ℕ) (plan : Result ℕ ℕ) : Type 0 where
   pub verdict : Verdict
   pub is : IsVerdict text verdict
   pub plan_is : plan ≡ pieces_of verdict
 
--- The text's plan. A typed unit keeps that its text spells its tree, but not in which way (∥ ∥₁), so nothing more is kept here.
+-- The text's plan. A typed unit keeps that its text spells its tree, but not how (∥ ∥₁), so nothing more is kept here.
 abbrev pub IsPlan : List ℕ → Result ℕ ℕ → Type 0
 IsPlan text plan = ∥ IsPlanBy text plan ∥₁

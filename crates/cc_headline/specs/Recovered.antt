@@ -12,8 +12,7 @@ use Rattle.cc_emit.specs.Piece.{Piece}
 use Rattle.cc_link.specs.Made.{IsCompiled}
 use Rattle.cc_headline.specs.Compiling.{compiling, is_right}
 
--- `Holds` is true after every list of events, from a fresh disk or from an opened one, for the library with which the run began
--- and for the core after it
+-- after every list of events, from a fresh or an opened disk, `Holds` is true of the library at the beginning and the core at the end
 abbrev pub AfterEveryRun : (Units → Core → Type 0) → Type 0
 AfterEveryRun Holds =
     (first new : Contents Piece) (events : List (Event Piece)) → IsBeginning first → Run compiling IsCompiled first events new → Holds first.core.library new.core
@@ -22,10 +21,10 @@ AfterEveryRun Holds =
 abbrev pub EachUnitAgrees : Core → Type 0
 EachUnitAgrees s = (image : List ℕ) (library : Units) → IsImage s.store.cells image → Recovers image library → EachUnit is_right library
 
--- all units agree if those that were found at the opening do
+-- all units agree with their sources, if those found at the opening do
 abbrev pub AgreesWhereFound : Units → Core → Type 0
 AgreesWhereFound found s = EachUnit is_right found → EachUnitAgrees s
 
--- each unit is one of those that were found at the opening, or agrees with its source
+-- each unit was found at the opening, or agrees with its source
 abbrev pub IsFoundOrAgrees : Units → Core → Type 0
 IsFoundOrAgrees found s = (image : List ℕ) (library : Units) → IsImage s.store.cells image → Recovers image library → EachUnit (IsRightOr is_right found) library

@@ -17,8 +17,8 @@ use std::sync::Arc;
 /// The build that compiles: a piece is the code of one function, and pieces are linked.
 ///
 /// A source is refused with the number of its fault, 1 to 7 or 11 to 21, as `typed_unit` answers. Pieces are refused as linking refuses
-/// them in the mode of the first one: 28 if one is of another source or mode, 27 if one comes twice, 26 if one is missing, 25 if the image
-/// would be too large.
+/// them in the mode of the first piece: Stranger (28) if a piece is of another source or mode, Doubled (27) if a piece comes twice,
+/// Missing (26) if a piece is missing, ImageTooLarge (25) if the image would be too large.
 #[derive(Drop)]
 pub struct CcBuild {}
 
@@ -42,7 +42,7 @@ impl Build for CcBuild {
     }
 
     fn names(&self, piece: &Piece, source: &[u8], part: u32) -> bool {
-        // The facts that a piece keeps are those that its type and its unit's type keep, and what linking promises.
+        // A piece keeps what its type and its unit's type keep, and what linking promises.
         linked_units_follow();
         let _kept = piece.items();
         let _kept = piece.unit().externals();
@@ -72,8 +72,7 @@ impl Build for CcBuild {
     ghost law = { whole_units_agree };
 }
 
-/// The number of pieces of a source, or the number with which it is refused, is determined: a text has exactly one plan, as it
-/// has exactly one verdict.
+/// A text has exactly one plan, since it has exactly one verdict: a number of pieces, or the number with which it is refused.
 pub fn texts_have_one_plan()
     ensures some { (text : List ℕ) → (plan : Result ℕ ℕ) × IsPlan text plan }
     ensures one { (text : List ℕ) (a b : Result ℕ ℕ) → IsPlan text a → IsPlan text b → a ≡ b }

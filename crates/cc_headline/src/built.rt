@@ -1,4 +1,4 @@
-// What the type of a compiled unit keeps, in the form that the protocol core asks for.
+// What the type of a compiled unit keeps, in the form that the protocol core requires.
 
 ghost use Rattle.cc_headline.specs.Built.{MadeUnitsAreBuilt};
 
@@ -7,8 +7,8 @@ use cc_link::linked_units_follow;
 use cc_syntax::trees_are_determined;
 use cc_tokens::tokens_are_determined;
 
-/// The pieces of a compiled unit, in the order of definitions, are all pieces of its source, and they give the unit. So a job with these
-/// pieces begins the commit of this unit.
+/// The pieces of a compiled unit, in the order of definitions, are all the pieces of its source, and they make up the unit. So a job
+/// with these pieces can begin the commit of this unit.
 pub fn made_units_are_built()
     ensures { MadeUnitsAreBuilt }
 {

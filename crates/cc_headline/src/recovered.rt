@@ -17,21 +17,20 @@ use cc_emit::Piece;
 use cc_link::linked_units_follow;
 use std::alloc::Global;
 
-/// Holds for every interleaving of clients, workers and committer, with crashes and failures of the disk at any point, starting from a
-/// fresh disk or from one that was opened with a library on it. Each command that goes into the order has a spelling, as the types of names
-/// and units keep.
+/// The clauses hold for every interleaving of clients, workers and committer, with crashes and failures of the disk at any point,
+/// starting from a fresh disk or from one that was opened with a library on it. Each command put into the order has a spelling, which
+/// the types of names and units guarantee.
 pub fn headline<B: Build>()
-    // Whatever a crash leaves of the disk recovers to the library of a prefix of the commands, in the order of their commits. The
-    // prefix has every acknowledged command and lacks at most the last one. This holds for any build, so also for the one that
-    // compiles, whatever pieces workers hand in, and whatever units were found at the opening. Reading it takes no knowledge of
-    // C.
+    // Whatever a crash leaves of the disk recovers to the library of a prefix of the commands, in the order of their commits. The prefix
+    // has every acknowledged command and lacks at most the last one. This clause holds for any build, so also for the one that compiles,
+    // whatever pieces workers hand in, and whatever units were found at the opening. Reading the clause needs no knowledge of C.
     ensures survives { (first new : Contents B.Piece) (events : List (Event B.Piece))
         → IsBeginning first → Run B.rules IsAnyPiece first events new → EachImageSurvives new.core }
     // With the build that compiles, if the units found at the opening agree with their sources, each recovered unit, when it
     // runs, does what its stored C source says. Nothing is promised for an input on which that source goes wrong: `a[3] = 5` on
     // `int a[3]` may write what lies next to `a`.
     ensures agrees { AfterEveryRun AgreesWhereFound }
-    // Whatever was found at the opening: each recovered unit is one of those, or agrees with its source.
+    // Whatever units were found at the opening, each recovered unit is one of them or agrees with its source.
     ensures units { AfterEveryRun IsFoundOrAgrees }
 {
     linked_units_follow();
@@ -39,8 +38,8 @@ pub fn headline<B: Build>()
     crash_law::<CcBuild>();
 }
 
-/// Takes these events in turn, with the build that compiles, and skips each event that is not possible when its turn comes. The only
-/// refusal is 40 `OutOfMemory`; the state is dropped then.
+/// Takes these events in order, with the build that compiles, and skips each event that is not possible when its turn comes. The only
+/// refusal is 40 `OutOfMemory`, after which the state is lost.
 pub fn run(
     alloc: Global,
     state: State<CcBuild>,
@@ -49,7 +48,7 @@ pub fn run(
     ensures run { IfOk result (λ new. Run compiling Keeps state events.items new) }
     // Whatever a crash leaves of the disk recovers to a library that has every acknowledged command.
     ensures survives { IfOk result (λ new. EachImageSurvives new.core) }
-    // Each unit of that library agrees with its stored source.
+    // Each unit of the recovered library agrees with its stored source.
     ensures agrees { IfOk result (λ new. EachUnitAgrees new.core) }
     ensures refused { IfErr result (λ fault. fault ≡ CoreFault.OutOfMemory) }
 {

@@ -37,7 +37,7 @@ not_here x a ne = grind (arith, nat_tests)
 is_here : (x a : ℕ) → x ≡ a → eqb x a ≡ true
 is_here x a e = grind (arith, nat_tests)
 
--- the first byte, if the address is its own, and those after it
+-- the byte at an address is the first one, if that is its address, or one of those after it
 first_or_rest : (from : ℕ) (b : ℕ) (bs : List ℕ) (a : ℕ) → cond (eqb from a) (b ∷ []) [] ++ byte_from (from + 1) bs a ≡ byte_from from (b ∷ bs) a
 first_or_rest from b bs a =
     elim (cases_lt a from) [
@@ -71,7 +71,7 @@ cells_at from (b ∷ bs) a fits =
     ∙ ap (λ others. cond (eqb from a) (b ∷ []) [] ++ others) rest
     ∙ first_or_rest from b bs a
 
--- each byte of words
+-- byte i of words is byte i % 4 of word i / 4
 byte_index : (words : List ℕ) (i : ℕ) → i < 4 * length words → get_or (bytes_of_words words) i 0 ≡ get_or words (i / 4) 0 / 2 ^ (8 * (i % 4)) % 256
 byte_index [] i lt = absurd (omega arith)
 byte_index (w ∷ ws) zero lt = let one : w / 1 ≡ w = omega arith in ap (λ n. n % 256) (sym one)

@@ -5,7 +5,7 @@ use Rattle.std.proofs.lemmas.Bool.Decides.{nat_tests}
 use Rattle.cc_hex.specs.Format.{digit_value, bytes_of}
 use Rattle.cc_hex.specs.Layout.{digit, two_digits}
 
--- each is a byte
+-- each number is a byte
 pub record AreBytes (bytes : List ℕ) : Type 0 where
   pub each : (i : ℕ) → get_or bytes i 0 < 256
 

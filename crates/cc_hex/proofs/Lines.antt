@@ -18,7 +18,7 @@ pub record AreRecords (text : List ℕ) (records : List Record) : Type 0 where
 pub no_records : AreRecords [] []
 no_records = record { lines = []; split = refl; read = refl }
 
--- the first line of a text
+-- a line without an end in it, put before a text, is the text's first line
 first_line : (line text : List ℕ) (lines : List (List ℕ)) → NoEnd line → lines_of text ≡ Some lines → lines_of (line ++ 10 ∷ text) ≡ Some (line ∷ lines)
 first_line line text lines Nothing e = rw e refl
 first_line line text lines (Before c cs ne h) e = rw (first_line cs text lines h e, ne) refl
@@ -32,7 +32,7 @@ sum_zero bytes =
     let parts : sum (bytes ++ checksum bytes ∷ []) ≡ sum bytes + (0 + checksum bytes) = sum_by-append (λ x. x) bytes (checksum bytes ∷ []) in
     omega arith
 
--- the bytes of a record, followed by its checksum
+-- reading the bytes of a record, followed by its checksum, gives that record
 record_again : (count high low t offset : ℕ) (data_bytes : List ℕ) (r : Record) → count ≡ length data_bytes → 256 * high + low ≡ offset → typed_record t offset data_bytes ≡ Some r →
     record_of ((count ∷ high ∷ low ∷ t ∷ data_bytes) ++ checksum (count ∷ high ∷ low ∷ t ∷ data_bytes) ∷ []) ≡ Some r
 record_again count high low t offset data_bytes r e o typed =
@@ -47,7 +47,7 @@ record_again count high low t offset data_bytes r e o typed =
     ∙ ap (λ d. typed_record t offset d) front
     ∙ typed
 
--- the line of a record before others
+-- a record's line, put before the lines of others, adds that record at the beginning
 pub record_first : (t offset : ℕ) (data_bytes text : List ℕ) (r : Record) (records : List Record) →
     AreBytes data_bytes → length data_bytes < 256 → offset < 65536 → t < 256 →
     typed_record t offset data_bytes ≡ Some r → AreRecords text records → AreRecords (record_line t offset data_bytes ++ text) (r ∷ records)

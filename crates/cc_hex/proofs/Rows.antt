@@ -16,7 +16,7 @@ pub record Tells (base : ℕ) (text : List ℕ) (cells : List AddressedByte) : T
   pub are : AreRecords text records
   pub contents : contents_of base records ≡ Some cells
 
--- cells cut in two
+-- the cells of the first k bytes, followed by those of the rest, are all cells
 cells_cut : (k a : ℕ) (bytes : List ℕ) → cells_from a (take k bytes) ++ cells_from (a + k) (drop k bytes) ≡ cells_from a bytes
 cells_cut zero a bytes = ap (λ n. cells_from n bytes) (let same : a + 0 ≡ a = omega arith in same)
 cells_cut (suc k) a [] = refl
@@ -25,7 +25,7 @@ cells_cut (suc k) a (b ∷ bs) =
     ap (λ n. record { address = a % 2 ^ 32; byte = b } ∷ (cells_from (a + 1) (take k bs) ++ cells_from n (drop k bs))) next
     ∙ ap (λ cells. record { address = a % 2 ^ 32; byte = b } ∷ cells) (cells_cut k (a + 1) bs)
 
--- a record of data before a text
+-- a record of data before a text adds its cells to those of the text
 data_first : (base offset : ℕ) (bytes text : List ℕ) (cells : List AddressedByte) → AreBytes bytes → length bytes < 256 → offset < 65536 → Tells base text cells →
     Tells base (record_line 0 offset bytes ++ text) (cells_from (base + offset) bytes ++ cells)
 data_first base offset bytes text cells h few low others = record {
@@ -34,7 +34,7 @@ data_first base offset bytes text cells h few low others = record {
   contents = ap (λ found. found >>= λ rest. Some (cells_from (base + offset) bytes ++ rest)) others.contents;
 }
 
--- a base address before a text
+-- a record of an upper half, put before a text, moves the base address of the text
 base_first : (base upper : ℕ) (text : List ℕ) (cells : List AddressedByte) → upper < 65536 → Tells (65536 * upper) text cells →
     Tells base (record_line 4 0 (to_be_bytes w16 upper) ++ text) cells
 base_first base upper text cells low others =
@@ -46,7 +46,7 @@ base_first base upper text cells low others =
       contents = ap (λ u. contents_of (65536 * u) others.records) same ∙ others.contents;
     }
 
--- a row's base line before a text
+-- after a row's base line, the base address is that of the row
 base_line_first : (base a : ℕ) (text : List ℕ) (cells : List AddressedByte) → a < 2 ^ 32 → (a % 65536 ≡ 0) ⊎ (base ≡ a - a % 65536) →
     Tells (a - a % 65536) text cells → Tells base (base_line a ++ text) cells
 base_line_first base a text cells low set others =

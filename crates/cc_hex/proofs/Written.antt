@@ -15,7 +15,7 @@ summed : (head rest head_total rest_total total c n : ℕ) → head_total ≡ he
     total ≡ (head_total + rest_total) % 256 → (c + total) % 256 ≡ 0 → c < 256 → n ≡ head + rest → c ≡ (256 - n % 256) % 256
 summed head rest head_total rest_total total c n e f g z h k = omega arith
 
--- the parts of a line, one after another
+-- the parts of a line, written one after another, are the line
 joined : (old data_bytes : List ℕ) (count high low t c : ℕ) →
     ((((old ++ 58 ∷ []) ++ flat_map two_digits (count ∷ high ∷ low ∷ t ∷ [])) ++ flat_map two_digits data_bytes) ++ flat_map two_digits (c ∷ [])) ++ 10 ∷ []
     ≡ old ++ (58 ∷ flat_map two_digits ((count ∷ high ∷ low ∷ t ∷ data_bytes) ++ c ∷ []) ++ 10 ∷ [])

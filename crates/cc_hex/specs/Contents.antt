@@ -1,4 +1,4 @@
--- The bytes of an image, each at its address, and what it means for a text to say them.
+-- The bytes of an image, each at its address, and what it means that a text gives these bytes.
 use Rattle.std.specs.Prelude.{ℕ, ◌+◌, ◌-◌, ◌*◌, ◌/◌, ◌%◌, ◌^◌, ◌&&◌, ◌==◌, nat_le, nat_lt, if◌then◌else◌, List, [], ◌∷◌, ◌++◌, length, slice_index, Option, Some, None, ◌≡◌}
 use Rattle.std.specs.List.{flat_map}
 use Rattle.std.specs.Int.{w32, to_le_bytes}
@@ -8,8 +8,7 @@ use Rattle.cc_hex.specs.Format.{AddressedByte, cells_from, read}
 
 -- ---- address by address
 
--- the byte at an address, given words that begin at another address, the lowest byte of each first: one byte, or none outside the
--- words
+-- the byte at an address, given words that begin at another address, the lowest byte of each first: one byte, or none outside the words
 abbrev pub byte_of_words : (from : ℕ) (words : List ℕ) (a : ℕ) → List ℕ
 byte_of_words from words a =
     if nat_le from a && nat_lt a (from + 4 * length words)

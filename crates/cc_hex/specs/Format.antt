@@ -1,7 +1,6 @@
--- What an Intel HEX text says (Intel, Hexadecimal Object File Format Specification, revision A, 1988), defined by a reader that
--- is total on all bytes. It reads the records of data (type 00), end of file (01) and extended linear address (04). A text with
--- anything else says nothing: a record of another type, a wrong digit, length or checksum, no end of file, or anything after
--- that.
+-- What an Intel HEX text says (Intel, Hexadecimal Object File Format Specification, revision A, 1988), defined by a reader that is total on
+-- all bytes. It reads the records of data (type 00), end of file (01) and extended linear address (04). A text with anything else says
+-- nothing: a record of another type, a wrong digit, length or checksum, no end of file, or anything after that.
 use Rattle.std.specs.Prelude.{ℕ, ◌+◌, ◌-◌, ◌*◌, ◌%◌, ◌^◌, ◌&&◌, ◌==◌, nat_le, if◌then◌else◌, List, [], ◌∷◌, ◌++◌, length, take, sum, Option, Some, None}
 use Rattle.cc_hex.specs.internal.Reading.{◌>>=◌}
 
@@ -27,7 +26,7 @@ digit_value c =
     else if nat_le 97 c && nat_le c 102 then Some (c - 87)
     else None
 
--- the bytes of these characters: two digits for each byte, the higher one first; a carriage return (13) may follow
+-- the bytes of these characters: two digits for each byte, the higher digit first; a carriage return (13) may follow
 abbrev pub bytes_of : List ℕ → Option (List ℕ)
 bytes_of [] = Some []
 bytes_of (c ∷ []) = if c == 13 then Some [] else None
@@ -43,7 +42,7 @@ pub data Record : Type 0 where
   -- these bytes, the first of them at this offset from the base address
   Data : (offset : ℕ) (bytes : List ℕ) → Record
   EndOfFile : Record
-  -- from here on the base address is 65,536 times this number
+  -- from here on, the base address is 65,536 times this number
   ExtendedLinearAddress : (upper : ℕ) → Record
 
 -- an end of file has no data
@@ -51,7 +50,7 @@ abbrev pub end_of_file : (data_bytes : List ℕ) → Option Record
 end_of_file [] = Some EndOfFile
 end_of_file (b ∷ bs) = None
 
--- an extended linear address has two bytes of data, the higher one first
+-- an extended linear address has two bytes of data, the higher byte first
 abbrev pub extended_linear_address : (data_bytes : List ℕ) → Option Record
 extended_linear_address (high ∷ low ∷ []) = Some (ExtendedLinearAddress (256 * high + low))
 extended_linear_address bytes = None

@@ -21,7 +21,7 @@ pub fn write(alloc: Global, image: &Image) -> Result<Vec<u8>, AllocError>
     ensures holds { IfOk result (λ text. Holds text.items image.now) }
     // The bytes are in order of address.
     ensures says { IfOk result (λ text. Says text.items image.now) }
-    // The layout of the text.
+    // The text has the layout that `image_text` defines.
     ensures laid_out { IfOk result (λ text. text.items ≡ image_text image.now) }
 {
     let mut text = Vec::new(alloc);

@@ -1,4 +1,4 @@
-// One record of an Intel HEX text, written after the ones before it.
+// One record of an Intel HEX text, written after those before it.
 
 ghost use Rattle.std.specs.Prelude.{◌≡◌, ◌++◌, ◌<◌, ◌≤◌, ◌/◌, ◌%◌, length, sum, OnOk};
 ghost use Rattle.std.specs.List.{flat_map};
@@ -30,7 +30,8 @@ impl RecordType {
     }
 }
 
-/// Appends a record with at most 255 bytes of data to the text. An `Err` leaves a part of the record there.
+/// Appends a record with at most 255 bytes of data to the text. An `Err` leaves a part of the record in the
+/// text.
 pub fn push_record(
     text: &mut Vec<u8>,
     record_type: RecordType,

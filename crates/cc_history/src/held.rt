@@ -1,7 +1,7 @@
-// The bytes for which a history is counted, so that whoever keeps one can see when it is too long.
+// How many bytes a history counts as, so that its owner can see when it is too long.
 //
-// An entry counts 256 bytes, plus the unit that a change handed in or the names that answered a list. A unit that answered a `fetch` is
-// shared with the library, or with the entry that put it there, and is not counted again.
+// An entry counts as 256 bytes, plus the unit that a change handed in or the names that answered a list. A unit that answered a `fetch`
+// is shared with the library, or with the entry that put it there, and is not counted again.
 
 ghost use Rattle.std.specs.Prelude.{◌≡◌, ◌+◌};
 ghost use Rattle.cc_history.specs.Held.{asked_bytes, at_most_told, certificate_bytes, entry_bytes, receipts_bytes, reply_bytes, unit_bytes};
@@ -11,10 +11,10 @@ use crate::entry::{Entry, Receipt};
 use crate::reply::Reply;
 use cc_link::{Certificate, StoredUnit};
 
-// An entry counts this many bytes, without its unit or its names.
+// An entry counts as this many bytes, without its unit or its names.
 const ENTRY_BYTES: u64 = 256;
 
-// A name counts this many bytes, which is what it takes in memory.
+// A name counts as this many bytes, which is what it occupies in memory.
 const NAME_BYTES: u64 = 48;
 
 fn certificate_held(certificate: &Option<Certificate>) -> u64
@@ -56,9 +56,9 @@ fn reply_held(reply: &Reply) -> u64
 }
 
 impl Entry {
-    /// The bytes for which the entry is counted: 256; for a change that hands in a unit also its source's bytes, 4 for each word of its
-    /// code and of its globals, and its certificate's bytes, however the change was answered; for a list also 48 for each name. `u64::MAX`
-    /// if there are more.
+    /// How many bytes the entry counts as: 256; for a change that hands in a unit, whatever its answer, also the bytes of the unit's
+    /// source and certificate, and 4 for each word of its code and of its globals; for a list also 48 for each name. `u64::MAX` if there
+    /// are more.
     pub fn held(&self) -> u64
         ensures { result ≡ at_most_told (entry_bytes self.now) }
     {
@@ -68,7 +68,7 @@ impl Entry {
     }
 }
 
-/// The bytes for which the entries of these receipts are counted, together. `u64::MAX` if there are more.
+/// How many bytes the entries of these receipts count as together. `u64::MAX` if there are more.
 pub fn held_by(receipts: &[Receipt]) -> u64
     ensures { result ≡ at_most_told (receipts_bytes receipts.now) }
 {

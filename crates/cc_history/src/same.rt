@@ -1,4 +1,4 @@
-// Whether two calls are the same, by content.
+// Whether two entries are the same, by content.
 
 ghost use Rattle.std.specs.Prelude.{◌≡◌, ◌↔◌, IsTrue};
 
@@ -8,7 +8,8 @@ use crate::reply::Reply;
 use cc_library::{Name, SharedUnit};
 use cc_link::CompiledUnit;
 
-// Whether two entries are the same. Client and call are compared first: they differ in most entries.
+// Whether two entries are the same. The client and the call are compared first, since these differ in most
+// entries.
 pub(crate) fn same_entry(one: &Entry, other: &Entry) -> bool
     ensures { IsTrue result ↔ (one.now ≡ other.now) }
 {

@@ -1,5 +1,5 @@
--- What bytes that were read ahead show about the bytes of a disk. How: they are a prefix of the disk's bytes from their offset
--- on, and each part of them is a prefix of what is at its own offset.
+-- What bytes that were read ahead show about the bytes of a disk. How: the bytes read ahead are a prefix of the disk's bytes
+-- from their offset on, and each part of them is a prefix of the disk's bytes from the part's own offset on.
 use Rattle.std.proofs.Common.{◌≡◌, ◌⊎◌, ℕ, ◌+◌, ◌-◌, ◌≤◌, List, [], ◌∷◌, ◌++◌, length, get_or, take, drop, ⊎_elim, Err, refl, sym, ◌∙◌, ap, subst, arith, append_assoc, length-append}
 use Rattle.std.proofs.Math.Seq.{take-add}
 use Rattle.std.proofs.lemmas.List.{drop-drop, drop-take, drop_all, length-drop, length-take-le, take-take, take_all, take_at}
@@ -40,11 +40,11 @@ shows_from offset later m bytes seen le shown =
     let same : drop (later - offset) (drop offset seen) ≡ drop later seen = drop-drop (later - offset) offset seen ∙ ap (λ (n : ℕ). drop n seen) (omega arith) in
     subst (λ (l : List ℕ). IsPrefix (take m (drop (later - offset) bytes)) l) same (prefix_of_prefix m (drop (later - offset) bytes) (drop (later - offset) (drop offset seen)) (prefix_behind (later - offset) bytes (drop offset seen) shown))
 
--- the first m of the bytes that are shown
+-- a window cut to its first m bytes is still right
 pub shows_first : (offset m : ℕ) (bytes seen : List ℕ) → Shows offset bytes seen → Shows offset (take m bytes) seen
 shows_first offset m bytes seen shown = prefix_of_prefix m bytes (drop offset seen) shown
 
--- the bytes that a window shows, followed by those that were read after them
+-- the bytes that a window shows, followed by those read after them, are the disk's bytes from the offset on
 pub shown_and_read : (offset done count : ℕ) (first rest seen : List ℕ) → Shows offset first seen → length first ≡ done → done ≤ count
     → rest ≡ take (count - done) (drop (offset + done) seen) → first ++ rest ≡ take count (drop offset seen)
 shown_and_read offset done count first rest seen shown long le read =
@@ -57,7 +57,7 @@ shown_and_read offset done count first rest seen shown long le read =
 pub shows_none : (offset : ℕ) (bytes seen : List ℕ) → bytes ≡ [] → Shows offset bytes seen
 shows_none offset bytes seen none = none ∙ ap (λ (l : List ℕ). take (length l) (drop offset seen)) (sym none)
 
--- what is in a list that was filled up after its first d bytes
+-- if bytes are written into a list after its first d bytes, the list begins with those d bytes and the written ones
 pub filled : (d n : ℕ) (bytes read rest tail : List ℕ) → d ≤ length bytes → n ≡ d + length read → take n ((take d bytes ++ (read ++ rest)) ++ tail) ≡ take d bytes ++ read
 filled d n bytes read rest tail le size =
     let first = take d bytes in
@@ -68,7 +68,7 @@ filled d n bytes read rest tail le size =
 pub read_as : (buffer l : List ℕ) (n m : ℕ) → buffer ≡ take n l → n ≡ m → buffer ≡ take m l
 read_as buffer l n m is same = is ∙ ap (λ (k : ℕ). take k l) same
 
--- if a record's bytes could not be read, a fault is a right answer
+-- if a record's bytes cannot be read, the fault of reading them is a right answer
 pub finds_none : (bytes : List ℕ) (left : ℕ) (fault : JournalFault) → IsBytesFault fault → FindsRecord bytes left (Err fault)
 finds_none bytes left DiskFault is = tt
 finds_none bytes left OutOfMemory is = tt

@@ -1,5 +1,5 @@
 -- What bytes that were read show about the bytes of a disk. How: what is read is a part of the disk's bytes, and a header or a
--- record there states its length in those bytes.
+-- record states its own length in its bytes.
 use Rattle.std.proofs.Common.{◌≡◌, ℕ, ◌+◌, ◌*◌, ◌%◌, ◌^◌, ◌<◌, Bool, true, false, not, List, [], ◌∷◌, ◌++◌, length, get_or, take, drop, Option, Some, None, IfSome, refl, sym, ◌∙◌, ap, subst, arith, eqb, append_assoc, take-append-drop}
 use Rattle.std.proofs.lemmas.Bool.{false≢true}
 use Rattle.std.proofs.lemmas.Bool.Decides.{Decides-eqb}
@@ -74,11 +74,11 @@ module _ (bytes : List ℕ) where
   only_gate (g ∷ []) long is = ap (λ (k : ℕ). k ∷ []) is
   only_gate (g ∷ h ∷ gate) long is = absurd (omega arith)
 
-  -- if an open gate was read, the bytes begin with one
+  -- if an open gate was read from the start of the bytes, they begin with an open gate
   pub gate_read : (gate : List ℕ) → gate ≡ take 1 bytes → length gate ≡ 1 → get_or gate 0 0 ≡ open_gate → bytes ≡ open_gate ∷ drop 1 bytes
   gate_read gate read long is = sym (take-append-drop 1 bytes) ∙ ap (λ (l : List ℕ). l ++ drop 1 bytes) (sym read ∙ only_gate gate long is)
 
-  -- if gate, length and body were read, the bytes begin with this record
+  -- if a gate, a length and a body were read, the bytes begin with the record that these make up
   pub record_read : (gate four body : List ℕ) (n : ℕ) → gate ≡ take 1 bytes → length gate ≡ 1 → get_or gate 0 0 ≡ open_gate
       → four ≡ take 4 (drop 1 bytes) → to_le_bytes w32 n ≡ four
       → body ≡ take n (drop 5 bytes) → length body ≡ n → bytes ≡ record_bytes body ++ drop n (drop 5 bytes)
@@ -89,7 +89,7 @@ module _ (bytes : List ℕ) where
       ∙ ap (λ (l : List ℕ). to_le_bytes w32 (length body) ++ l) (drop-drop 4 1 bytes ∙ sym (take-append-drop n (drop 5 bytes)) ∙ ap (λ (l : List ℕ). l ++ drop n (drop 5 bytes)) (sym read-body)) in
       gate_read gate read long is ∙ ap (λ (l : List ℕ). open_gate ∷ l) (tail ∙ sym (append_assoc (to_le_bytes w32 (length body)) body (drop n (drop 5 bytes))))
 
-  -- the length that was read is the length of the record there
+  -- the length that was read is the length of the body there
   pub length_read : (four body rest : List ℕ) (n : ℕ) → four ≡ take 4 (drop 1 bytes) → n ≡ from_le_bytes w32 four → bytes ≡ record_bytes body ++ rest → length body < 2 ^ 32 → n ≡ length body
   length_read four body rest n read n-is is small =
       n-is ∙ ap (λ (l : List ℕ). from_le_bytes w32 l) (read ∙ ap (λ (l : List ℕ). take 4 (drop 1 l)) is) ∙ from_le_bytes-to_le_bytes_4 (length body) small

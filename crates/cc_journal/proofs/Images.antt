@@ -12,7 +12,7 @@ use Rattle.cc_journal.specs.Commit.{append_commit, IsCommitted}
 use Rattle.cc_journal.specs.internal.Commit.{IsMidCommit}
 use Rattle.cc_journal.proofs.Records.{length-header, length-four_bytes, records_push, length-records_push, holds_alone}
 
--- the bytes that an append puts after a gate
+-- the bytes that an append writes after a gate
 abbrev pub frame : List ℕ → List ℕ
 frame body = to_le_bytes w32 (length body) ++ (body ++ 0 ∷ [])
 
@@ -28,7 +28,7 @@ module _ (old new : List ℕ) where
       ap length is ∙ length-append (take offset old) (bytes ++ drop (offset + length bytes) old)
       ∙ omega (arith, fits, length-append bytes (drop (offset + length bytes) old), length-take-le offset old (omega (arith, fits)), length-drop (offset + length bytes) old)
 
-  -- a write leaves what is before its range and after it
+  -- a write changes nothing before its range or after it
   pub written_differs : (offset : ℕ) (bytes : List ℕ) → offset + length bytes ≤ length old → IsWritten old offset bytes new → DiffersWithin offset (length bytes) old new
   written_differs offset bytes fits is =
       let Z = drop (offset + length bytes) old in
@@ -40,7 +40,7 @@ module _ (old new : List ℕ) where
         size = length_written offset bytes fits is;
       }
 
-  -- if a byte is written right before bytes that were written before, both are one write
+  -- writing bytes, and then one byte just before them, is the same as writing all of them at once
   pub in_one_write : (staged : List ℕ) (gate byte : ℕ) (bytes : List ℕ) → gate + 1 + length bytes ≤ length old → IsWritten old (gate + 1) bytes staged → IsWritten staged gate (byte ∷ []) new → IsWritten old gate (byte ∷ bytes) new
   in_one_write staged gate byte bytes fits first second =
       let Z = drop (gate + 1 + length bytes) old in
@@ -69,7 +69,7 @@ module _ (image : List ℕ) (start area used : ℕ) (bodies : List (List ℕ)) (
   pub in_two : image ≡ prefix ++ h.gate ∷ h.behind
   in_two = h.bytes ∙ sym (regroup (h.gate ∷ h.behind))
 
-  -- an image of that prefix and a closed gate holds the old records
+  -- an image that has this prefix and then a closed gate holds the old records
   pub holds_old : (other : List ℕ) (gate : ℕ) (behind : List ℕ) → length other ≡ length image → other ≡ prefix ++ gate ∷ behind → gate ≢ open_gate → HoldsRecords other area bodies
   holds_old other gate behind long is closed = record {
     area_byte = h.area_byte;
@@ -83,7 +83,7 @@ module _ (image : List ℕ) (start area used : ℕ) (bodies : List (List ℕ)) (
     is_area = subst (λ (n : ℕ). IsArea n area) (sym long) h.is_area;
   }
 
-  -- with the new record after the old ones and its gate open, an image holds the new one too
+  -- if the new record comes after the old ones, with its gate open, an image holds the new record too
   pub holds_new : (other body behind : List ℕ) → length other ≡ length image → used + length body + 6 ≤ area → other ≡ prefix ++ open_gate ∷ (frame body ++ behind) → HoldsFrom other start area (bodies ++ body ∷ [])
   holds_new other body behind long room is = record {
     holds = record {
@@ -110,14 +110,14 @@ module _ (image : List ℕ) (start area used : ℕ) (bodies : List (List ℕ)) (
   prefix_gate : prefix ++ h.gate ∷ [] ≡ take (start + used + 1) image
   prefix_gate = sym (ap (λ (l : List ℕ). take (start + used + 1) l) (in_two ∙ sym (append_assoc prefix (h.gate ∷ []) h.behind)) ∙ take_at (prefix ++ h.gate ∷ []) h.behind (start + used + 1) (omega (arith, length-append prefix (h.gate ∷ []), length-prefix)))
 
-  -- the write of the body leaves the closed gate, whatever else it leaves
+  -- whatever the write of the body leaves, it leaves the closed gate, and so the old records
   pub behind_gate : (other : List ℕ) (n : ℕ) → DiffersWithin (start + used + 1) n image other → HoldsRecords other area bodies
   behind_gate other n differs =
       let is : other ≡ prefix ++ h.gate ∷ drop (start + used + 1) other =
       sym (take-append-drop (start + used + 1) other) ∙ ap (λ (l : List ℕ). l ++ drop (start + used + 1) other) (differs.before ∙ sym prefix_gate) ∙ append_assoc prefix (h.gate ∷ []) (drop (start + used + 1) other) in
       holds_old other h.gate (drop (start + used + 1) other) differs.size is h.closed
 
-  -- the write of the gate leaves the old records, or the old ones and the new one
+  -- the write of the gate leaves the old records, or those and the new one
   pub at_gate : (body written other : List ℕ) → used + length body + 6 ≤ area → IsWritten image (start + used + 1) (frame body) written → length written ≡ length image → DiffersWithin (start + used) 1 written other
       → HoldsOldOrNew area bodies body other
   at_gate body written other room is long differs =
@@ -156,7 +156,7 @@ module _ (image : List ℕ) (start area used : ℕ) (bodies : List (List ℕ)) (
   mid_commit body other room (inr (written, is, differs)) =
       at_gate body written other room is (length-written (start + used + 1) (frame body) written (omega (arith, in_area (1 + length (frame body)) (omega (arith, room, length-frame body)))) is) differs
 
-  -- what one write of a whole record leaves: the old records and the new one
+  -- one write of a whole record leaves the old records and the new one
   pub committed : (body written : List ℕ) → used + length body + 6 ≤ area → IsWritten image (start + used) (open_gate ∷ frame body) written → HoldsFrom written start area (bodies ++ body ∷ [])
   committed body written room is =
       let Z = drop (start + used + length (open_gate ∷ frame body)) image in
@@ -164,7 +164,7 @@ module _ (image : List ℕ) (start area used : ℕ) (bodies : List (List ℕ)) (
       (length-written (start + used) (open_gate ∷ frame body) written (omega (arith, in_area (1 + length (frame body)) (omega (arith, room, length-frame body)))) is)
       room (is ∙ ap (λ (l : List ℕ). l ++ open_gate ∷ (frame body ++ Z)) take-prefix)
 
-  -- an append that was committed is one write of the record, its gate open, and a closed gate
+  -- a committed append amounts to one write of the record, with its gate open, and a closed gate
   pub appended : (body new : List ℕ) → used + length body + 6 ≤ area → IsCommitted (append_commit (start + used) body) image new → IsWritten image (start + used) (open_gate ∷ frame body) new
   appended body new room done =
       in_one_write image new done.0 (start + used) open_gate (frame body) (omega (arith, in_area (1 + length (frame body)) (omega (arith, room, length-frame body)))) done.1 done.2

@@ -1,5 +1,6 @@
--- An image holds at most one list of records. How: if two equal lists both begin with a header or a record, these are equal,
--- since they state their own lengths. So if the same bytes begin with two lists of records, one of these continues the other.
+-- An image holds at most one list of records. How: if the same bytes begin with two headers, or with two records, the two are
+-- equal, since each states its own length. So if the same bytes begin with two lists of records, one list continues the
+-- other.
 use Rattle.std.proofs.Common.{◌≡◌, ◌≢◌, ℕ, zero, suc, ◌+◌, ◌*◌, ◌%◌, ◌^◌, ◌<◌, ◌≤◌, List, [], ◌∷◌, ◌++◌, length, get_or, take, drop, refl, sym, ◌∙◌, ap, arith, length-append, append_assoc, drop-cons}
 use Rattle.std.proofs.lemmas.List.{take_at, drop_at}
 use Rattle.std.proofs.lemmas.Nat.{from_le_bytes-to_le_bytes_4}
@@ -51,7 +52,7 @@ records_push bodies body = records-append bodies (body ∷ []) ∙ ap (λ (l : L
 pub length-records_push : (bodies : List (List ℕ)) (body : List ℕ) → length (records (bodies ++ body ∷ [])) ≡ length (records bodies) + (length body + 5)
 length-records_push bodies body = ap length (records_push bodies body) ∙ length-append (records bodies) (record_bytes body) ∙ ap (λ (k : ℕ). length (records bodies) + k) (length-record_bytes body)
 
--- going through a list of records from its start
+-- the records from index i on are record i and the records after it
 pub next_body : (bodies : List (List ℕ)) (i : ℕ) (body : List ℕ) → i < length bodies → body ≡ get_or bodies i body → drop i bodies ≡ body ∷ drop (i + 1) bodies
 next_body bodies i body within is =
     let k : suc i ≡ i + 1 = omega arith in
@@ -79,7 +80,7 @@ record_same x y rest others small-x small-y same =
 first_same : (x y : ℕ) (xs ys : List ℕ) → x ∷ xs ≡ y ∷ ys → x ≡ y
 first_same x y xs ys same = cc
 
--- if bytes begin with records, and also with other records and a closed gate, the others continue the first ones
+-- if bytes begin with records, and also with other records and a closed gate, the other records continue the first ones
 pub records_prefix : (bodies others : List (List ℕ)) (bytes : List ℕ) (gate : ℕ) (behind : List ℕ)
     → length (records bodies) < 2 ^ 32 → length (records others) < 2 ^ 32 → gate ≢ open_gate → records bodies ++ bytes ≡ records others ++ gate ∷ behind
     → (more : List (List ℕ)) × (others ≡ bodies ++ more) × (bytes ≡ records more ++ gate ∷ behind)

@@ -1,5 +1,5 @@
 -- What the images of a rewrite hold. How: the records depend only on the header and on the area that it names. The first write
--- leaves the header and the area in use; the second changes only the area byte, and both areas hold records then.
+-- does not touch the header or the area in use; the second changes only the area byte, and both areas then hold records.
 use Rattle.std.proofs.Common.{◌≡◌, ◌⊎◌, inl, inr, ⊎_elim, ℕ, ◌+◌, ◌-◌, ◌*◌, ◌%◌, ◌<◌, ◌≤◌, List, [], ◌∷◌, ◌++◌, length, get_or, take, drop, sym, ◌∙◌, ap, subst, arith, length-append, append_assoc, take-append-drop}
 use Rattle.std.proofs.lemmas.Bool.{cases_eq}
 use Rattle.std.proofs.lemmas.List.{take_at, drop_at, drop_more, drop-drop, drop-take, length-take-le, take-append-le}
@@ -21,7 +21,7 @@ at_zero k area e = ap (λ (n : ℕ). 16 + n * area) e ∙ omega arith
 at_one : (k area : ℕ) → k ≡ 1 → 16 + k * area ≡ 16 + area
 at_one k area e = ap (λ (n : ℕ). 16 + n * area) e ∙ omega arith
 
--- one area begins after the header, the other right after it
+-- one area begins after the header, and the other right after that area
 pub sides : (b area : ℕ) → ((area_begin b area ≡ 16) × (area_begin (other_area b) area ≡ 16 + area)) ⊎ ((area_begin b area ≡ 16 + area) × (area_begin (other_area b) area ≡ 16))
 sides b area =
     ⊎_elim
@@ -49,7 +49,7 @@ module _ (old image : List ℕ) (long : length image ≡ length old) where
       let parts : e + (s - e) ≡ s = omega arith in
       ap (λ (n : ℕ). drop n image) (sym parts) ∙ sym (drop-drop (s - e) e image) ∙ ap (λ (x : List ℕ). drop (s - e) x) same ∙ drop-drop (s - e) e old ∙ ap (λ (n : ℕ). drop n old) parts
 
-  -- the header stays
+  -- if the first 16 bytes stay, the header stays
   header_stays : (start area : ℕ) → take 16 image ≡ take 16 old → BeginsWith old start area → BeginsWith image start area
   header_stays start area same b = record {
     area_byte = b.area_byte;
@@ -59,7 +59,7 @@ module _ (old image : List ℕ) (long : length image ≡ length old) where
     begins = b.begins;
   }
 
-  -- records before a range that was written stay
+  -- if the first t bytes stay, records that end before t stay
   records_stay : (s t : ℕ) (bodies : List (List ℕ)) → s + room_of bodies ≤ t → t ≤ length old → take t image ≡ take t old → EndsClosed (drop s old) bodies → EndsClosed (drop s image) bodies
   records_stay s t bodies le within same ends =
       let room = room_of bodies in
@@ -83,7 +83,7 @@ begins_of image start area bodies from = record {
   begins = from.begins ∙ ap (λ (n : ℕ). 16 + n) from.holds.offset;
 }
 
--- a write into the other area leaves the records
+-- a write into the other area does not change the records
 pub old_area_stays : (old image : List ℕ) (start area n : ℕ) (bodies : List (List ℕ)) (from : HoldsFrom old start area bodies) → n ≤ area
     → DiffersWithin (area_begin (other_area from.holds.area_byte) area) n old image → HoldsFrom image start area bodies
 old_area_stays old image start area n bodies from small differs =
@@ -104,7 +104,7 @@ old_area_stays old image start area n bodies from small differs =
     (sides b area) in
     holds_from image start area bodies head (subst (λ (k : ℕ). IsArea k area) (sym differs.size) size) there from.holds.fits
 
--- an image that differs only in the area byte holds what is in the area that this byte names
+-- an image that differs only in the area byte holds the records of the area that its area byte names
 pub decided : (staged image : List ℕ) (start s area : ℕ) (bodies : List (List ℕ)) → BeginsWith staged start area → IsArea (length staged) area → DiffersWithin 0 1 staged image → 16 ≤ s → s ≡ area_begin (get_or image 0 0) area
     → EndsClosed (drop s staged) bodies → room_of bodies ≤ area → HoldsFrom image s area bodies
 decided staged image start s area bodies b size differs least s_is ends room =
@@ -134,18 +134,18 @@ module _ (old : List ℕ) (start area : ℕ) (bodies : List (List ℕ)) (from : 
   within : t + length whole ≤ length old
   within = ⊎_elim (λ a. omega (arith, a.1, from.holds.is_area.room, length-whole, room)) (λ z. omega (arith, z.1, from.holds.is_area.room, length-whole, room)) (sides b area)
 
-  -- with the other area written, the old records are still held
+  -- once the other area is written, the old records are still held
   staged_holds : (staged : List ℕ) → IsWritten old t whole staged → HoldsFrom staged start area bodies
   staged_holds staged is = old_area_stays old staged start area (length whole) bodies from (omega (arith, length-whole, room)) (written_differs old staged t whole within is)
 
-  -- and the new records are in the other area
+  -- once the other area is written, it has the new records
   staged_ends : (staged : List ℕ) → IsWritten old t whole staged → EndsClosed (drop t staged) more
   staged_ends staged is =
       let Z = drop (t + length whole) old in
       let here : drop t staged ≡ whole ++ Z = ap (λ (l : List ℕ). drop t l) is ∙ drop_at (take t old) (whole ++ Z) t (length-take-le t old (omega (arith, within))) in
       record { gate = 0; behind = Z; is = here ∙ append_assoc (records more) (0 ∷ []) Z; closed = λ e. absurd (omega (arith, e)) }
 
-  -- a crash in the middle leaves the old records or the new ones
+  -- a crash in the middle of a rewrite leaves the old records or the new ones
   pub rewriting : (image : List ℕ) → IsMidCommit (rewrite_commit b area more) old image → HoldsOneOf area bodies more image
   rewriting image (inl differs) = inl (holds_alone image area bodies (old_area_stays old image start area (length whole) bodies from (omega (arith, length-whole, room)) differs).holds)
   rewriting image (inr (staged, is, differs)) =
@@ -162,7 +162,7 @@ module _ (old : List ℕ) (start area : ℕ) (bodies : List (List ℕ)) (from : 
       (decided staged image start t area more begins kept.holds.is_area differs (omega arith) (same_side (other_area b) x area (omega (arith, other))) (staged_ends staged is) room).holds))
       (cases_eq (x % 2) (b % 2))
 
-  -- after the commit the new records are in the other area
+  -- after the commit of a rewrite the disk holds the new records, in the other area
   pub rewritten : (new : List ℕ) → IsCommitted (rewrite_commit b area more) old new → HoldsFrom new t area more
   rewritten new done =
       let staged = done.0 in

@@ -1,5 +1,5 @@
 -- What is found by reading one record after the other. How: the bytes of the area are the records read so far, followed by the
--- rest; any list of records with which they begin continues those that were read.
+-- rest; any list of records that the bytes begin with continues those that were read.
 use Rattle.std.proofs.Common.{◌≡◌, Bool, IsTrue, Err, if◌then◌else◌, ℕ, ◌+◌, ◌-◌, ◌*◌, ◌%◌, ◌^◌, ◌<◌, ◌≤◌, List, [], ◌∷◌, ◌++◌, length, take, drop, refl, sym, ◌∙◌, ap, arith, length-append, append_assoc, take-append-drop}
 use Rattle.std.proofs.lemmas.List.{drop_at, drop-drop, length-take-le}
 use Rattle.std.proofs.Math.Nat.{mul-le-mul_right}
@@ -46,7 +46,7 @@ none_ends bytes start used area bodies others small taken fits so_far rest is_op
         omega (arith, total, parts, record-long, long, room, past, taken)
 
 module _ {D : Type 0} (seen : D → List ℕ) (may_leave : D → List ℕ → Type 0) (moment : D → ℕ) (left_since : D → ℕ → List ℕ → Type 0) where
-  -- if two calls only read the disk, so do both together
+  -- if each of two calls only reads the disk, the two together only read it
   pub reads_on : (a b c : D) → OnlyReads seen may_leave moment left_since a b → OnlyReads seen may_leave moment left_since b c → OnlyReads seen may_leave moment left_since a c
   reads_on a b c first second = record {
     same = second.same ∙ first.same;

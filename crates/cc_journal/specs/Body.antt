@@ -1,4 +1,4 @@
--- A body, given the bytes that are kept for it: these are the body itself, or everything after the gate of its record.
+-- The body in the bytes that are kept for it, which are the body itself or everything after the gate of its record.
 use Rattle.std.specs.Prelude.{ℕ, ◌-◌, Bool, true, false, List, length, take, drop}
 
 -- the body in these bytes

@@ -24,25 +24,24 @@ records (body ∷ bodies) = record_bytes body ++ records bodies
 abbrev pub room_of : List (List ℕ) → ℕ
 room_of bodies = length (records bodies) + 1
 
--- a disk of this many bytes has room for two areas of that size, which is within its limits
+-- an area of this size is within its limits, and a disk of `size` bytes has room for two of them
 pub record IsArea (size area : ℕ) : Type 0 where
   pub least : 64 ≤ area
   pub most : area ≤ 2 ^ 30
   pub room : 16 + 2 * area ≤ size
 
--- the image begins with a right header of an area of that size
+-- the image begins with a valid header for areas of this size
 pub record HasHeader (image : List ℕ) (area : ℕ) : Type 0 where
   pub area_byte : ℕ
   pub rest : List ℕ
   pub bytes : image ≡ header area_byte area ++ rest
   pub is_area : IsArea (length image) area
 
--- the image begins with the header of that area byte and of an area of that size
+-- the image begins with the header for this area byte and for areas of this size
 abbrev pub HasAreaByte : List ℕ → (area_byte area : ℕ) → Type 0
 HasAreaByte image area_byte area = (rest : List ℕ) × (image ≡ header area_byte area ++ rest)
 
--- The image has a right header. The area that the area byte names (A if it is even, B if it is odd) has these records and then a
--- closed gate, within the area.
+-- The image has a valid header, and these records, with a closed gate after them, in the area that the area byte names (A if even, else B).
 pub record HoldsRecords (image : List ℕ) (area : ℕ) (bodies : List (List ℕ)) : Type 0 where
   pub area_byte : ℕ
   pub other : List ℕ
@@ -54,12 +53,12 @@ pub record HoldsRecords (image : List ℕ) (area : ℕ) (bodies : List (List ℕ
   pub fits : room_of bodies ≤ area
   pub is_area : IsArea (length image) area
 
--- the image holds these records in areas of that size, and no others
+-- the image holds these records, in areas of this size, and no others
 pub record HoldsAlone (image : List ℕ) (area : ℕ) (bodies : List (List ℕ)) : Type 0 where
   pub holds : HoldsRecords image area bodies
   pub alone : (size : ℕ) (others : List (List ℕ)) → HoldsRecords image size others → (size ≡ area) × (others ≡ bodies)
 
--- every one of these images has exactly these records, in an area of that size
+-- every one of these images has exactly these records, in areas of this size
 abbrev pub AllHold : (List ℕ → Type 0) → ℕ → List (List ℕ) → Type 0
 AllHold may_leave area bodies = (image : List ℕ) → may_leave image → HoldsAlone image area bodies
 

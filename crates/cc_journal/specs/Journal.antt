@@ -3,14 +3,14 @@ use Rattle.std.specs.Prelude.{◌≡◌, ℕ, ◌+◌, ◌≤◌, Bool, false, I
 use Rattle.cc_disk.specs.Images.{LeavesAlone}
 use Rattle.cc_journal.specs.Format.{IsArea, HoldsRecords, records, room_of}
 
--- what contracts see of a journal: its disk, the size of an area, its records, whether it is closed
+-- what contracts see of a journal: its disk, the size of an area, its records, and whether it is closed
 pub record View (D : Type 0) : Type 0 where
   pub disk : D
   pub area : ℕ
   pub bodies : List (List ℕ)
   pub closed : Bool
 
--- the place of the records on an image
+-- the image holds these records, in the area that begins at `start`
 pub record HoldsFrom (image : List ℕ) (start area : ℕ) (bodies : List (List ℕ)) : Type 0 where
   pub holds : HoldsRecords image area bodies
   pub begins : start ≡ 16 + length holds.other

@@ -2,7 +2,7 @@
 pub mod Fault
 -- the bytes of a journal, and which records an image holds
 pub mod Format
--- one commit: the bytes, their offsets, and the order in which they are written
+-- one commit: its bytes, their offsets, and the order in which they are written
 pub mod Commit
 -- the body that is in the bytes kept for it
 pub mod Body

@@ -11,11 +11,11 @@ use std::marker::Model;
 /// The bytes of one record. A clause reads it as a list.
 pub struct Body {
     bytes: Vec<u8>,
-    // Whether `bytes` also has what is around the body in a record: its length before it and a closed gate after it.
+    // Whether `bytes` also has what is around the body in a record: the body's length before it and a closed gate after it.
     is_framed: bool,
 }
 
-// This is written by hand, so that crates above call it and need not prove again how each part is dropped.
+// Written by hand, so that crates that use this one can call it and need not prove again how each part is dropped.
 impl Drop for Body {
     fn drop(self) {
         let Body { bytes, is_framed } = self;
@@ -63,7 +63,7 @@ impl Body {
         &self.bytes
     }
 
-    /// The body's bytes, in the `Vec` from which it was made. Takes no memory.
+    /// The body's bytes, in the `Vec` that the body was made from. Takes no memory.
     pub fn into_vec(self) -> Vec<u8>
         ensures { result.items ≡ self }
     {
@@ -79,7 +79,7 @@ impl Body {
         bytes
     }
 
-    // What comes after the gate of the body's record. This is a copy if the body was made without it.
+    // What comes after the gate of the body's record. This is a copy unless the body was made by `from_framed`.
     pub(crate) fn into_framed(self, alloc: Global) -> Result<Vec<u8>, AllocError>
         requires { length self < 2 ^ 32 }
         ensures { IfOk result (λ bytes. bytes.items ≡ behind_gate self) }

@@ -1,6 +1,6 @@
-// One commit: how records get onto the disk. Bytes are written to a place where they count for nothing yet, and synced. Then one
-// byte is written that puts them in force, and synced. So a crash at any moment leaves the old records or the new ones. An
-// `append` and a `rewrite` differ only in these bytes and their offsets.
+// One commit: how records get onto the disk. Bytes are written to a place where they do not count yet, and synced. Then one byte
+// is written that puts them in force, and that byte is synced. So a crash at any moment leaves the old records or the new ones.
+// An `append` and a `rewrite` differ only in these bytes and their offsets.
 
 ghost use Rattle.std.specs.Prelude.{◌≡◌, ◌+◌, ◌*◌, ◌^◌, ◌<◌, ◌≤◌, ◌++◌, List, ℕ, IsTrue, length, IfOk, OnErr, OnOk, is_ok, if◌then◌else◌};
 ghost use Rattle.cc_disk.specs.Images.{LeavesAlone, LeavesOnly};
@@ -20,8 +20,8 @@ pub const OPEN: u8 = 0xa5;
 /// The closed gate, as it is written.
 pub const CLOSED: u8 = 0;
 
-/// The bytes that one commit writes, and their offsets: those of its first write, and the one byte of its second write, which
-/// decides. A clause sees both with their offsets.
+/// What one commit writes, with the offsets: the bytes of its first write, and the one byte of its second write, which decides. A
+/// clause sees both with their offsets.
 #[derive(Drop)]
 pub struct Commit {
     offset: usize,
@@ -39,8 +39,8 @@ impl Model for Commit {
 }
 
 impl Commit {
-    /// The commit that puts a record with this body after the closed gate at that offset: first what comes after the record's own
-    /// gate (its length, its body, and the next gate, closed), then its own gate, open.
+    /// The commit that writes a record with this body at the closed gate at this offset: first what comes after the record's own
+    /// gate (the body's length, the body, and the next gate, closed), and then its own gate, open.
     pub fn append(alloc: Global, gate: usize, body: &[u8]) -> Result<Commit, AllocError>
         requires short { length body.now < 2 ^ 32 }
         requires fits { gate + 1 < 2 ^ 64 }
@@ -49,8 +49,8 @@ impl Commit {
         Ok(Commit::behind(gate, framed(alloc, body)?))
     }
 
-    // Makes the same commit for a body that is handed over; the body can be taken out of the commit again. If it already has what
-    // is around it in a record, this takes no memory.
+    // Makes the commit of `append` for a body that is handed over; `into_body` hands the body back. Takes no memory if the body
+    // was made by `Body::from_framed`.
     pub(crate) fn of_body(alloc: Global, gate: usize, body: Body) -> Result<Commit, AllocError>
         requires short { length body < 2 ^ 32 }
         requires fits { gate + 1 < 2 ^ 64 }
@@ -59,7 +59,7 @@ impl Commit {
         Ok(Commit::behind(gate, body.into_framed(alloc)?))
     }
 
-    // The commit that writes these bytes after the closed gate at that offset, and then opens the gate.
+    // The commit that writes these bytes after the closed gate at this offset, and then opens that gate.
     fn behind(gate: usize, bytes: Vec<u8>) -> Commit
         requires { gate + 1 < 2 ^ 64 }
         ensures { result ≡ record { offset = gate + 1; bytes = bytes.items; deciding_offset = gate; deciding_byte = open_gate } }
@@ -72,7 +72,7 @@ impl Commit {
         }
     }
 
-    // The body of the record that the commit puts, if it is an append.
+    // The body of the record that the commit writes. The commit must be an append.
     pub(crate) fn into_body(self) -> Body
         requires { (gate : ℕ) × (body : List ℕ) × (length body < 2 ^ 32) × (self ≡ append_commit gate body) }
         ensures { (gate : ℕ) (body : List ℕ) → self ≡ append_commit gate body → result ≡ body }
@@ -80,9 +80,9 @@ impl Commit {
         Body::from_framed(self.bytes)
     }
 
-    /// The commit that makes these the records of a disk whose area byte is that one, with areas of `area` bytes: first all
-    /// records and the closed gate after them, from the beginning of the other area on, then the byte of that area, 0 for A and 1
-    /// for B.
+    /// The commit that makes these the records of a disk with this area byte and areas of `area` bytes. First it writes all
+    /// records and the closed gate after them, from the beginning of the other area on, and then the area byte of the other area,
+    /// 0 for A and 1 for B.
     pub fn rewrite(
         alloc: Global,
         area_byte: u8,
@@ -142,12 +142,12 @@ pub fn make<D: Disk>(disk: &mut D, commit: &Commit) -> Result<(), DiskFault>
     ensures failures { D.failures disk.new ≡ (if is_ok result then D.failures disk.old else D.failures disk.old + 1) }
     ensures committed { OnOk result (IsTrue D.honest → IsCommitted commit.now (D.seen disk.old) (D.seen disk.new)) }
     ensures alone { OnOk result (IsTrue D.honest → LeavesAlone (D.seen disk.new) (D.may_leave disk.new)) }
-    // At which step the commit failed, and what that left on the disk.
+    // A failed commit leaves what the first write may leave, or what the deciding write may leave.
     ensures failed { OnErr result (IsTrue D.honest → LeavesAlone (D.seen disk.old) (D.may_leave disk.old) → FailsIn commit.now (D.seen disk.old) (D.may_leave disk.new)) }
     ensures moments { IsTrue D.honest → LeavesAlone (D.seen disk.old) (D.may_leave disk.old)
         → LeavesOnly D.moment D.left_since disk.old disk.new (IsMidCommit commit.now (D.seen disk.old)) }
 {
-    // The new bytes are after a closed gate, or in the area that is not in use: a torn write counts for nothing.
+    // The new bytes are after a closed gate, or in the area that is not in use: a torn write has no effect.
     disk.write_at(commit.offset(), commit.bytes())?;
     // The new bytes are settled before the deciding byte is written, so that this byte never puts torn records in force.
     disk.sync()?;
@@ -157,7 +157,7 @@ pub fn make<D: Disk>(disk: &mut D, commit: &Commit) -> Result<(), DiskFault>
     disk.sync()
 }
 
-// The byte of the other area.
+// The area byte of the other area.
 fn other_area(area_byte: u8) -> u8
     ensures other { result ≡ other_area area_byte }
     ensures small { result ≤ 1 }

@@ -13,7 +13,7 @@ pub enum JournalFault {
     /// 34: the area is outside its limits or does not fit on the disk, or the record does not fit in its area.
     #[error("Full")]
     Full,
-    /// 35: the device failed in the call.
+    /// 35: the device failed during the call.
     #[error("DiskFault")]
     DiskFault,
     /// 36: an earlier call failed on the device, so the disk has to be opened again.
@@ -22,7 +22,7 @@ pub enum JournalFault {
     /// 37: an open record does not fit in its area.
     #[error("Damaged")]
     Damaged,
-    /// 38: there is no right header.
+    /// 38: there is no valid header.
     #[error("NotALibrary")]
     NotALibrary,
     /// 40: memory ran out.

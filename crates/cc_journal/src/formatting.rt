@@ -12,8 +12,8 @@ use cc_disk::Disk;
 /// Makes an empty journal of two areas of `area` bytes, 64 to 1,073,741,824, on the disk: the header with area byte 0, and a
 /// closed gate after it. Takes no memory.
 ///
-/// Refusals: 34 if `area` is outside its limits or `16 + 2 * area` bytes do not fit on the disk, which is then as it was before;
-/// 35 if the device failed, after which the disk has to be formatted again.
+/// Refusals: 34 if `area` is outside its limits or `16 + 2 * area` bytes do not fit on the disk, and the disk is then as it was
+/// before; 35 if the device failed, after which the disk has to be formatted again.
 pub fn format<D: Disk>(disk: &mut D, area: u32) -> Result<(), JournalFault>
     ensures answers { FormatAnswers (D.size disk.old) area (D.failures disk.old) (D.failures disk.new) result }
     ensures size { D.size disk.new ≡ D.size disk.old }

@@ -22,7 +22,7 @@ pub struct Journal<D: Disk> {
     bodies: Vec<Body>,
 }
 
-// This is written by hand, so that crates above call it and need not prove again how each part is dropped.
+// Written by hand, so that crates that use this one can call it and need not prove again how each part is dropped.
 impl<D: Disk + Drop> Drop for Journal<D> {
     fn drop(self) {
         let Journal { log, bodies } = self;
@@ -43,19 +43,20 @@ impl<D: Disk> Model for Journal<D> {
 impl<D: Disk> Journal<D> {
     /// Opens the journal on a disk: syncs it, then reads its records.
     ///
-    /// Refusals, in this order, with the disk handed back: 35 if the device failed in the call, 38 if there is no right header,
-    /// 37 if an open record does not fit in its area. Also 40 if memory ran out.
+    /// Refusals, in this order, with the disk handed back: 35 if the device failed during the call, 38 if there is no valid
+    /// header, 37 if an open record does not fit in its area. Also 40 if memory ran out.
     pub fn open(alloc: Global, disk: D) -> Result<Journal<D>, (JournalFault, D)>
-        // What was found on an honest disk; every image then has exactly that.
+        // On an honest disk these are the records that were found, and every image then has exactly these.
         ensures records { IfOk result (λ j. IsTrue D.honest → HoldsRecords (D.seen disk) j.area j.bodies) }
         ensures kept { IfOk result (λ j. IsTrue D.honest → AllHold (D.may_leave j.disk) j.area j.bodies) }
         ensures open { IfOk result (λ j. j.closed ≡ false) }
 
-        // For every kind of disk: there is room for the areas and for the records, and a small disk is no library.
+        // For every kind of disk: there is room for the areas and for the records, and a disk of fewer than 144 bytes is not a
+        // library.
         ensures room { IfOk result (λ j. IsArea (D.size disk) j.area × (room_of j.bodies ≤ j.area)) }
         ensures small { D.size disk < 144 → IfErr result (λ e. (e.0 ≡ JournalFault.DiskFault) ⊎ (e.0 ≡ JournalFault.NotALibrary)) }
 
-        // When each refusal comes.
+        // Which refusal comes, and when.
         ensures sound { IfOk result (λ j. D.failures j.disk ≡ D.failures disk) }
         ensures refused { IfErr result (λ e. OpenFaults D.honest (D.seen disk) (D.failures disk) (D.failures e.1) e.0) }
 
@@ -77,32 +78,33 @@ impl<D: Disk> Journal<D> {
         ensures kept { IsTrue D.honest → self.now.closed ≡ false
             → AllHold (D.may_leave self.now.disk) self.now.area self.now.bodies }
     {
-        // This gives the proof what the log promises about its images.
+        // Gives the proof what the log promises about its images.
         let _kept = self.log.is_closed();
         &self.bodies
     }
 
-    /// Adds a record with this body. At Ok it is kept: every crash from then on leaves it.
+    /// Adds a record with this body. After Ok the record is kept: every crash from then on leaves it.
     ///
-    /// Refusals, in this order: 36 if the journal is closed; 34 if the record does not fit: it takes 5 bytes and its body,
-    /// besides the records and the closed gate; 40 if memory ran out. These three make no device call and change nothing. Last,
-    /// 35 if the device failed in the call: the journal is then closed, and its disk has the old records, or the old and the new
+    /// Refusals, in this order: 36 if the journal is closed; 34 if the record (5 bytes more than its body) and the closed gate
+    /// after it do not fit after the records; 40 if memory ran out. These three make no device call and change nothing. Last, 35
+    /// if the device failed during the call: the journal is then closed, and its disk has the old records, or those and the new
     /// one.
     pub fn append(&mut self, alloc: Global, body: &[u8]) -> Result<(), JournalFault>
         ensures answers { AppendAnswers self.old.closed self.old.area self.old.bodies body.now (D.failures self.old.disk) (D.failures self.new.disk) result }
         ensures size { D.size self.new.disk ≡ D.size self.old.disk }
         ensures area { self.new.area ≡ self.old.area }
 
-        // At Ok the record comes after the old ones, and every image has exactly these.
+        // After Ok the record comes after the old ones, and every image has exactly these records.
         ensures added { OnOk result (self.new.bodies ≡ self.old.bodies ++ body.now ∷ []) }
         ensures open { OnOk result (self.new.closed ≡ false) }
         ensures kept { OnOk result (IsTrue D.honest → AllHold (D.may_leave self.new.disk) self.new.area self.new.bodies) }
 
-        // The bytes of the disk change in one range only: it then has the record, its gate open, and a closed gate after it.
+        // The bytes of the disk change in one range only, which then has the record, with its gate open, and a closed gate after
+        // it.
         ensures bytes { OnOk result (IsTrue D.honest → (offset : ℕ)
             × IsWritten (D.seen self.old.disk) offset (record_bytes body.now ++ 0 ∷ []) (D.seen self.new.disk)) }
 
-        // A refusal leaves the records as they were. If no device call was made, all is as it was; after 35 the journal is
+        // A refusal leaves the records as they were. If no device call was made, everything is as it was; after 35 the journal is
         // closed.
         ensures leaves { OnErr result (self.new.bodies ≡ self.old.bodies) }
         ensures untouched { IfErr result (λ e. e ≢ JournalFault.DiskFault → self.new ≡ self.old) }
@@ -117,23 +119,24 @@ impl<D: Disk> Journal<D> {
         self.append_body(alloc, Body::from_framed(bytes))
     }
 
-    /// Does the same as `append` for a body that is handed over. The body is not copied to be kept; one made by
+    /// Does the same as `append` for a body that is handed over. The body is not copied to be kept; a body made by
     /// `Body::from_framed` is not copied to be written either. Every refusal drops it.
     pub fn append_body(&mut self, alloc: Global, body: Body) -> Result<(), JournalFault>
         ensures answers { AppendAnswers self.old.closed self.old.area self.old.bodies body (D.failures self.old.disk) (D.failures self.new.disk) result }
         ensures size { D.size self.new.disk ≡ D.size self.old.disk }
         ensures area { self.new.area ≡ self.old.area }
 
-        // At Ok the record comes after the old ones, and every image has exactly these.
+        // After Ok the record comes after the old ones, and every image has exactly these records.
         ensures added { OnOk result (self.new.bodies ≡ self.old.bodies ++ body ∷ []) }
         ensures open { OnOk result (self.new.closed ≡ false) }
         ensures kept { OnOk result (IsTrue D.honest → AllHold (D.may_leave self.new.disk) self.new.area self.new.bodies) }
 
-        // The bytes of the disk change in one range only: it then has the record, its gate open, and a closed gate after it.
+        // The bytes of the disk change in one range only, which then has the record, with its gate open, and a closed gate after
+        // it.
         ensures bytes { OnOk result (IsTrue D.honest → (offset : ℕ)
             × IsWritten (D.seen self.old.disk) offset (record_bytes body ++ 0 ∷ []) (D.seen self.new.disk)) }
 
-        // A refusal leaves the records as they were. If no device call was made, all is as it was; after 35 the journal is
+        // A refusal leaves the records as they were. If no device call was made, everything is as it was; after 35 the journal is
         // closed.
         ensures leaves { OnErr result (self.new.bodies ≡ self.old.bodies) }
         ensures untouched { IfErr result (λ e. e ≢ JournalFault.DiskFault → self.new ≡ self.old) }
@@ -151,27 +154,27 @@ impl<D: Disk> Journal<D> {
         Ok(())
     }
 
-    /// Makes these the records, in place of all others. At Ok they are kept: every crash from then on leaves them, and no others.
-    /// They are written into the area that is not in use, which is in use from then on.
+    /// Makes these the records, in place of all others. After Ok they are kept: every crash from then on leaves them, and no
+    /// others. They are written to the area that is not in use, which is in use from then on.
     ///
     /// Refusals, in this order: 36 if the journal is closed; 34 if the records and their closed gate do not fit in an area; 40 if
-    /// memory ran out. These three make no device call and change nothing. Last, 35 if the device failed in the call: the journal
-    /// is then closed, and its disk has the old records or the new ones. Every refusal drops the new ones.
+    /// memory ran out. These three make no device call and change nothing. Last, 35 if the device failed during the call: the
+    /// journal is then closed, and its disk has the old records or the new ones. Every refusal drops the new records.
     pub fn rewrite(&mut self, alloc: Global, bodies: Vec<Body>) -> Result<(), JournalFault>
         ensures answers { CommitAnswers self.old.closed self.old.area bodies.items (D.failures self.old.disk) (D.failures self.new.disk) result }
         ensures size { D.size self.new.disk ≡ D.size self.old.disk }
         ensures area { self.new.area ≡ self.old.area }
 
-        // At Ok these are the records, and every image has exactly these.
+        // After Ok these are the records, and every image has exactly these.
         ensures rewritten { OnOk result (self.new.bodies ≡ bodies.items) }
         ensures open { OnOk result (self.new.closed ≡ false) }
         ensures kept { OnOk result (IsTrue D.honest → AllHold (D.may_leave self.new.disk) self.new.area self.new.bodies) }
 
-        // The disk then has the bytes that this one commit makes, given the area byte that the disk had.
+        // After Ok the disk has the bytes that this one commit makes, given the area byte that the disk had.
         ensures bytes { OnOk result (IsTrue D.honest → (area_byte : ℕ) × HasAreaByte (D.seen self.old.disk) area_byte self.old.area
             × IsCommitted (rewrite_commit area_byte self.old.area bodies.items) (D.seen self.old.disk) (D.seen self.new.disk)) }
 
-        // A refusal leaves the records as they were. If no device call was made, all is as it was; after 35 the journal is
+        // A refusal leaves the records as they were. If no device call was made, everything is as it was; after 35 the journal is
         // closed.
         ensures leaves { OnErr result (self.new.bodies ≡ self.old.bodies) }
         ensures untouched { IfErr result (λ e. e ≢ JournalFault.DiskFault → self.new ≡ self.old) }
@@ -185,7 +188,7 @@ impl<D: Disk> Journal<D> {
         Ok(())
     }
 
-    /// The disk, as the calls so far left it. Takes no memory.
+    /// The disk, as the calls so far have left it. Takes no memory.
     pub fn into_disk(self) -> D
         ensures { result ≡ self.disk }
     {

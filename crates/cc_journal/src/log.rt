@@ -1,4 +1,5 @@
-// The log: the places of records on a disk, and how they get there. The log keeps no body: whoever needs the bodies keeps them.
+// The log: the places of records on a disk, and how records get there. The log keeps no body: whoever needs the bodies keeps
+// them.
 
 ghost use Rattle.std.specs.Prelude.{◌≡◌, ◌≢◌, ◌⊎◌, ◌+◌, ◌*◌, ◌^◌, ◌<◌, ◌≤◌, ◌++◌, [], ◌∷◌, List, ℕ, true, false, IsTrue, IsNone, length, IfOk, IfErr, IfSome, MatchResult, OnOk, OnErr, IsErrOf, vec_len, vec_capacity};
 ghost use Rattle.cc_disk.specs.Images.{IsWritten, LeavesAlone, LeavesOnly, OnlyReads};
@@ -30,7 +31,7 @@ pub struct Log<D: Disk> {
     closed: bool,
 }
 
-// This is written by hand, so that crates above call it and need not prove again how each part is dropped.
+// Written by hand, so that crates that use this one can call it and need not prove again how each part is dropped.
 impl<D: Disk + Drop> Drop for Log<D> {
     fn drop(self) {
         let Log {
@@ -57,23 +58,24 @@ impl<D: Disk> Model for Log<D> {
 impl<D: Disk> Log<D> {
     /// Opens the log on a disk: syncs it, then reads its records, which it returns.
     ///
-    /// Refusals, in this order, with the disk handed back: 35 if the device failed in the call, 38 if there is no right header,
-    /// 37 if an open record does not fit in its area. Also 40 if memory ran out.
+    /// Refusals, in this order, with the disk handed back: 35 if the device failed during the call, 38 if there is no valid
+    /// header, 37 if an open record does not fit in its area. Also 40 if memory ran out.
     pub fn open(alloc: Global, mut disk: D) -> Result<(Log<D>, Vec<Body>), (JournalFault, D)>
         // The records that are returned are the log's.
         ensures handed { IfOk result (λ x. x.1.items ≡ x.0.bodies) }
 
-        // What was found on an honest disk; every image then has exactly that.
+        // On an honest disk these are the records that were found, and every image then has exactly these.
         ensures records { IfOk result (λ x. IsTrue D.honest → HoldsRecords (D.seen disk) x.0.area x.0.bodies) }
         ensures kept { IfOk result (λ x. IsTrue D.honest → AllHold (D.may_leave x.0.disk) x.0.area x.0.bodies) }
         ensures settled { IfOk result (λ x. IsTrue D.honest → LeavesAlone (D.seen x.0.disk) (D.may_leave x.0.disk)) }
         ensures open { IfOk result (λ x. x.0.closed ≡ false) }
 
-        // For every kind of disk: there is room for the areas and for the records, and a small disk is no library.
+        // For every kind of disk: there is room for the areas and for the records, and a disk of fewer than 144 bytes is not a
+        // library.
         ensures room { IfOk result (λ x. IsArea (D.size disk) x.0.area × (room_of x.0.bodies ≤ x.0.area)) }
         ensures small { D.size disk < 144 → IfErr result (λ e. (e.0 ≡ JournalFault.DiskFault) ⊎ (e.0 ≡ JournalFault.NotALibrary)) }
 
-        // When each refusal comes.
+        // Which refusal comes, and when.
         ensures sound { IfOk result (λ x. D.failures x.0.disk ≡ D.failures disk) }
         ensures refused { IfErr result (λ e. OpenFaults D.honest (D.seen disk) (D.failures disk) (D.failures e.1) e.0) }
 
@@ -111,7 +113,7 @@ impl<D: Disk> Log<D> {
         ensures kept { IsTrue D.honest → self.now.closed ≡ false
             → AllHold (D.may_leave self.now.disk) self.now.area self.now.bodies }
     {
-        // Only opening the disk again makes an open log.
+        // Only opening the disk again yields a log that is not closed.
         self.closed
     }
 
@@ -123,7 +125,7 @@ impl<D: Disk> Log<D> {
         self.area
     }
 
-    /// How many bytes of the area the records take: 5 and its body for each record. The closed gate after the last one takes one
+    /// How many bytes of the area the records take: each takes its body and 5 bytes. The closed gate after the last one takes one
     /// more. Takes no memory.
     pub fn used(&self) -> usize
         ensures used { result ≡ length (records self.now.bodies) }
@@ -132,8 +134,8 @@ impl<D: Disk> Log<D> {
         self.used
     }
 
-    /// Answers whether a record with a body of this many bytes would be taken now: 36 if the log is closed, then 34 if the record
-    /// does not fit. Takes no memory.
+    /// Whether a record with a body of this many bytes would be taken now: 36 if the log is closed, then 34 if the record does
+    /// not fit. Takes no memory.
     pub fn takes(&self, count: usize) -> Result<(), JournalFault>
         ensures answers { (body : List ℕ) (failures : ℕ) → length body ≡ count
             → AppendAnswers self.now.closed self.now.area self.now.bodies body failures failures result }
@@ -155,39 +157,41 @@ impl<D: Disk> Log<D> {
         Ok(())
     }
 
-    /// Adds a record with this body, and hands the body back. At Ok the record is kept: every crash from then on leaves it. A
+    /// Adds a record with this body, and hands the body back. After Ok the record is kept: every crash from then on leaves it. A
     /// body made by `Body::from_framed` is not copied.
     ///
-    /// Refusals, in this order: 36 if the log is closed; 34 if the record does not fit: it takes 5 bytes and its body, besides
-    /// the records and the closed gate; 40 if memory ran out. These three make no device call and change nothing. Last, 35 if the
-    /// device failed in the call: the log is then closed, and its disk has the old records, or those and the new one. Every
-    /// refusal drops the body.
+    /// Refusals, in this order: 36 if the log is closed; 34 if the record, which takes its body and 5 bytes, does not fit after
+    /// the records, with the closed gate after it; 40 if memory ran out. These three make no device call and change nothing.
+    /// Last, 35 if the device failed during the call: the log is then closed, and its disk has the old records, or those and the
+    /// new one. Every refusal drops the body.
     pub fn append(&mut self, alloc: Global, body: Body) -> Result<Body, JournalFault>
         ensures answers { AppendAnswers self.old.closed self.old.area self.old.bodies body (D.failures self.old.disk) (D.failures self.new.disk) result }
         ensures size { D.size self.new.disk ≡ D.size self.old.disk }
         ensures area { self.new.area ≡ self.old.area }
 
-        // At Ok the record comes after the old ones, and every image has exactly these.
+        // After Ok the record comes after the old ones, and every image has exactly these records.
         ensures added { OnOk result (self.new.bodies ≡ self.old.bodies ++ body ∷ []) }
         ensures handed { IfOk result (λ kept. kept ≡ body) }
         ensures open { OnOk result (self.new.closed ≡ false) }
         ensures kept { OnOk result (IsTrue D.honest → AllHold (D.may_leave self.new.disk) self.new.area self.new.bodies) }
 
-        // The bytes of the disk change in one range only: it then has the record, its gate open, and a closed gate after it.
+        // The bytes of the disk change in one range only, which then has the record, with its gate open, and a closed gate after
+        // it.
         ensures bytes { OnOk result (IsTrue D.honest → (offset : ℕ)
             × IsWritten (D.seen self.old.disk) offset (record_bytes body ++ 0 ∷ []) (D.seen self.new.disk)) }
 
-        // The disk then has the bytes that this one commit makes, given the area byte that the disk had, and all of them are
+        // After Ok the disk has the bytes that this one commit makes, given the area byte that the disk had, and all of them are
         // settled.
         ensures committed { OnOk result (IsTrue D.honest → (area_byte : ℕ) → HasAreaByte (D.seen self.old.disk) area_byte self.old.area
             → IsCommitted (append_commit (area_begin area_byte self.old.area + length (records self.old.bodies)) body) (D.seen self.old.disk) (D.seen self.new.disk)
             × LeavesAlone (D.seen self.new.disk) (D.may_leave self.new.disk)) }
 
-        // If the device failed, this is how the commit left the disk.
+        // If the device failed, the disk is as a failed commit leaves it.
         ensures failed { IsErrOf result JournalFault.DiskFault → IsTrue D.honest → (area_byte : ℕ) → HasAreaByte (D.seen self.old.disk) area_byte self.old.area
             → FailsIn (append_commit (area_begin area_byte self.old.area + length (records self.old.bodies)) body) (D.seen self.old.disk) (D.may_leave self.new.disk) }
 
-        // A refusal leaves the records as they were. If no device call was made, all is as it was; after 35 the log is closed.
+        // A refusal leaves the records as they were. If no device call was made, everything is as it was; after 35 the log is
+        // closed.
         ensures leaves { OnErr result (self.new.bodies ≡ self.old.bodies) }
         ensures untouched { IfErr result (λ e. e ≢ JournalFault.DiskFault → self.new ≡ self.old) }
         ensures closes { IsErrOf result JournalFault.DiskFault → self.new.closed ≡ true }
@@ -220,37 +224,38 @@ impl<D: Disk> Log<D> {
         }
     }
 
-    /// Makes these the records, in place of all others, and hands them back. At Ok they are kept: every crash from then on leaves
-    /// them, and no others. They are written into the area that is not in use, which is in use from then on.
+    /// Makes these the records, in place of all others, and hands them back. After Ok they are kept: every crash from then on
+    /// leaves them, and no others. They are written to the area that is not in use, which is in use from then on.
     ///
     /// Refusals, in this order: 36 if the log is closed; 34 if the records and their closed gate do not fit in an area; 40 if
-    /// memory ran out. These three make no device call and change nothing. Last, 35 if the device failed in the call: the log is
-    /// then closed, and its disk has the old records or the new ones. Every refusal drops the new ones.
+    /// memory ran out. These three make no device call and change nothing. Last, 35 if the device failed during the call: the log
+    /// is then closed, and its disk has the old records or the new ones. Every refusal drops the new records.
     pub fn rewrite(&mut self, alloc: Global, bodies: Vec<Body>) -> Result<Vec<Body>, JournalFault>
         ensures answers { CommitAnswers self.old.closed self.old.area bodies.items (D.failures self.old.disk) (D.failures self.new.disk) result }
         ensures size { D.size self.new.disk ≡ D.size self.old.disk }
         ensures area { self.new.area ≡ self.old.area }
 
-        // At Ok these are the records, and every image has exactly these.
+        // After Ok these are the records, and every image has exactly these.
         ensures rewritten { OnOk result (self.new.bodies ≡ bodies.items) }
         ensures handed { IfOk result (λ kept. kept.items ≡ bodies.items) }
         ensures open { OnOk result (self.new.closed ≡ false) }
         ensures kept { OnOk result (IsTrue D.honest → AllHold (D.may_leave self.new.disk) self.new.area self.new.bodies) }
 
-        // The disk then has the bytes that this one commit makes, given the area byte that the disk had.
+        // After Ok the disk has the bytes that this one commit makes, given the area byte that the disk had.
         ensures bytes { OnOk result (IsTrue D.honest → (area_byte : ℕ) × HasAreaByte (D.seen self.old.disk) area_byte self.old.area
             × IsCommitted (rewrite_commit area_byte self.old.area bodies.items) (D.seen self.old.disk) (D.seen self.new.disk)) }
 
-        // The same holds for any area byte that the disk had, and all of the new bytes are settled.
+        // After Ok the disk has those bytes whatever area byte it had, and all of the new bytes are settled.
         ensures committed { OnOk result (IsTrue D.honest → (area_byte : ℕ) → HasAreaByte (D.seen self.old.disk) area_byte self.old.area
             → IsCommitted (rewrite_commit area_byte self.old.area bodies.items) (D.seen self.old.disk) (D.seen self.new.disk)
             × LeavesAlone (D.seen self.new.disk) (D.may_leave self.new.disk)) }
 
-        // If the device failed, this is how the commit left the disk.
+        // If the device failed, the disk is as a failed commit leaves it.
         ensures failed { IsErrOf result JournalFault.DiskFault → IsTrue D.honest → (area_byte : ℕ) → HasAreaByte (D.seen self.old.disk) area_byte self.old.area
             → FailsIn (rewrite_commit area_byte self.old.area bodies.items) (D.seen self.old.disk) (D.may_leave self.new.disk) }
 
-        // A refusal leaves the records as they were. If no device call was made, all is as it was; after 35 the log is closed.
+        // A refusal leaves the records as they were. If no device call was made, everything is as it was; after 35 the log is
+        // closed.
         ensures leaves { OnErr result (self.new.bodies ≡ self.old.bodies) }
         ensures untouched { IfErr result (λ e. e ≢ JournalFault.DiskFault → self.new ≡ self.old) }
         ensures closes { IsErrOf result JournalFault.DiskFault → self.new.closed ≡ true }
@@ -282,7 +287,7 @@ impl<D: Disk> Log<D> {
         }
     }
 
-    /// The disk, as the calls so far left it. Takes no memory.
+    /// The disk, as the calls so far have left it. Takes no memory.
     pub fn into_disk(self) -> D
         ensures { result ≡ self.disk }
     {
@@ -298,7 +303,7 @@ impl<D: Disk> Log<D> {
     }
 }
 
-// Gives contracts these bodies; at run time it does nothing.
+// Shows these bodies to contracts; does nothing at run time.
 fn told(bodies: &[Body]) -> History<Body>
     ensures { result.items ≡ bodies.now }
 {
@@ -309,7 +314,7 @@ fn told(bodies: &[Body]) -> History<Body>
     history
 }
 
-// The area byte of the area that begins at that offset.
+// The area byte of the area that begins at this offset.
 fn side(start: usize) -> u8
     ensures first { start ≡ 16 → result ≡ 0 }
     ensures second { start ≢ 16 → result ≡ 1 }

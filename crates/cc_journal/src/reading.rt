@@ -1,4 +1,4 @@
-// Reads a journal from a disk that may hold anything.
+// Reads a journal from a disk that may have arbitrary bytes.
 
 ghost use Rattle.std.specs.Prelude.{IfSome, IsNone, IsErrOf, ◌↔◌, ◌≡◌, ◌≢◌, ◌⊎◌, ◌+◌, ◌*◌, ◌^◌, ◌<◌, ◌≤◌, ◌++◌, [], ◌∷◌, List, ℕ, false, IsTrue, length, take, drop, IfOk, IfErr, MatchResult, OnOk, OnErr, is_ok, if◌then◌else◌};
 ghost use Rattle.std.specs.Int.{w32, to_le_bytes, from_le_bytes};
@@ -23,7 +23,7 @@ pub const LARGEST_AREA: usize = 1 << 30;
 /// The number of bytes of the header, which comes before the two areas.
 pub const HEADER: usize = 16;
 
-/// The records that a disk holds, and their place.
+/// The records that a disk holds, and their places.
 #[derive(Drop)]
 pub struct Found {
     pub bodies: Vec<Body>,
@@ -56,7 +56,7 @@ pub fn find_records<D: Disk>(alloc: Global, disk: &mut D) -> Result<Found, Journ
     })
 }
 
-// The offset of the area in use and the size of an area, if there is a right header.
+// The offset of the area in use and the size of an area, if there is a valid header.
 fn read_header<D: Disk>(disk: &mut D) -> Result<Option<(usize, usize)>, DiskFault>
     ensures size { D.size disk.new ≡ D.size disk.old }
     ensures failures { D.failures disk.new ≡ (if is_ok result then D.failures disk.old else D.failures disk.old + 1) }
@@ -75,7 +75,7 @@ fn read_header<D: Disk>(disk: &mut D) -> Result<Option<(usize, usize)>, DiskFaul
     Ok(parse_header(&bytes, size))
 }
 
-// The header of an empty or a full journal: area byte, name, area size, zeros.
+// The header of a journal, empty or not: area byte, name, area size, zeros.
 pub fn header_bytes(area_byte: u8, area: u32) -> [u8; 16]
     ensures { result ≡ header area_byte area }
 {
@@ -85,14 +85,15 @@ pub fn header_bytes(area_byte: u8, area: u32) -> [u8; 16]
     ]
 }
 
-// Whether a disk of this many bytes has room for two areas of that size, which is within its limits.
+// Whether `area` is within its limits, and a disk of `size` bytes has room for two such areas.
 pub fn is_area(size: usize, area: usize) -> bool
     ensures { IsTrue result ↔ IsArea size area }
 {
     LEAST_AREA <= area && area <= LARGEST_AREA && HEADER + 2 * area <= size
 }
 
-// Reads the same out of the first 16 bytes of a disk of that size.
+// The offset of the area in use and the size of an area, if these first 16 bytes of a disk of `size` bytes
+// are a valid header.
 fn parse_header(bytes: &[u8; 16], size: usize) -> Option<(usize, usize)>
     ensures right { IfSome result (λ at. IsArea size at.1 × (at.0 ≤ 16 + at.1) × BeginsWith bytes.now at.0 at.1) }
     ensures wrong { IsNone result → (area_byte area : ℕ) → bytes.now ≡ header area_byte area → IsArea size area → ⊥ }
@@ -115,7 +116,7 @@ fn parse_header(bytes: &[u8; 16], size: usize) -> Option<(usize, usize)>
     Some((start, area))
 }
 
-// The records from `start` on, within an area of that size, and how many bytes they take.
+// The records in the area of `area` bytes that begins at `start`, and how many bytes they take.
 #[tactic(auto, using(crate::proofs::Ahead::shows_none))]
 fn read_records<D: Disk>(
     alloc: Global,
@@ -152,7 +153,7 @@ fn length_of(bytes: &[u8; 4]) -> u32
     u32::from_le_bytes([bytes[0], bytes[1], bytes[2], bytes[3]])
 }
 
-// The record at that offset, if its gate is open; `left` bytes of the area are left from there on.
+// The record at this offset, if its gate is open; the area has `left` bytes from there on.
 fn read_record<D: Disk>(
     alloc: Global,
     disk: &mut D,
@@ -186,7 +187,7 @@ fn read_record<D: Disk>(
     if left - 6 < length {
         return Err(JournalFault::Damaged);
     }
-    // The body has as many bytes as its length says, all within the area.
+    // The body has as many bytes as the length says, all of them within the area.
     let bytes = window.read(alloc, disk, offset + 5, length)?;
     Ok(Some(Body::new(bytes)))
 }

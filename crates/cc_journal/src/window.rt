@@ -1,6 +1,6 @@
-// Reads ahead. Records are short, and a device call for each of their parts would cost more than the parts. So one call reads
-// what follows an offset, as far as a window goes, and the parts of the records there are taken from the window. A body that goes
-// on after the window is completed by a call of its own, so no byte is read twice.
+// Reads ahead. Records are short, and a device call for each of their parts would cost more than the parts. So one call reads a
+// window of bytes that begins at some offset, and the parts of the records there are taken from this window. A body that goes on
+// after the window is completed by a call of its own, so no byte is read twice.
 
 ghost use Rattle.std.specs.Prelude.{◌≡◌, ◌+◌, ◌-◌, ◌^◌, ◌<◌, ◌≤◌, [], List, ℕ, IsTrue, length, take, drop, IfOk, IfErr, OnOk};
 ghost use Rattle.cc_disk.specs.Images.{OnlyReads};
@@ -10,10 +10,10 @@ use crate::fault::JournalFault;
 use cc_disk::Disk;
 use std::alloc::Global;
 
-/// At most this many bytes are read ahead.
+/// The largest number of bytes that are read ahead.
 pub const WINDOW: usize = 65_536;
 
-/// The bytes that were read ahead from a disk, from an offset on.
+/// The bytes that were read ahead from a disk, and the offset at which they begin.
 #[derive(Drop)]
 pub struct Window {
     pub offset: usize,
@@ -31,7 +31,7 @@ impl Window {
         }
     }
 
-    /// The bytes that the window shows from that offset on.
+    /// The bytes that the window shows from this offset on.
     pub fn from(&self, offset: usize) -> &[u8]
         ensures shows { (seen : List ℕ) → Shows self.now.offset self.now.bytes.items seen → Shows offset result.now seen }
         ensures all { self.now.offset ≤ offset → length result.now ≡ length self.now.bytes.items - (offset - self.now.offset) }
@@ -42,7 +42,7 @@ impl Window {
         &self.bytes[offset - self.offset..]
     }
 
-    // The first `count` of those bytes, or all if there are fewer.
+    // The first `count` bytes that the window shows from this offset on, or all of them if there are fewer.
     fn part(&self, offset: usize, count: usize) -> &[u8]
         ensures shows { (seen : List ℕ) → Shows self.now.offset self.now.bytes.items seen → Shows offset result.now seen }
         ensures most { length result.now ≤ count }
@@ -54,7 +54,7 @@ impl Window {
         &shown[..count]
     }
 
-    /// Reads ahead from that offset on, within `end`, if the window shows fewer than `count` bytes from there.
+    /// Reads ahead from this offset on, but not beyond `end`, if the window shows fewer than `count` bytes from there.
     pub fn look<D: Disk>(
         &mut self,
         disk: &mut D,
@@ -85,7 +85,7 @@ impl Window {
         Ok(())
     }
 
-    /// The `count` bytes of the disk from that offset on.
+    /// The `count` bytes of the disk that begin at this offset.
     pub fn read<D: Disk>(
         &self,
         alloc: Global,

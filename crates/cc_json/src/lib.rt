@@ -1,9 +1,10 @@
 //! What the program answers and explains, as JSON: one object for each line.
 //!
 //! `object` makes an object and writes it, `numbers` reads decimals, `line` makes the object for a line of an answer, `place` the
-//! object for a line about a place, `telling` the explanations of a text; `performing` performs a task and writes all of it as
-//! JSON. `writer` is a writer of lines: each line of what a session answers and explains becomes an object. `docs/JSON.md` says
-//! which members an object has. The crate exports `perform_in_json`, `perform_files_in_json` and `InJson`.
+//! object for a line about a place, `telling` the explanations of a text; `performing` performs a task and writes all that it
+//! answers and explains as JSON. `writer` is a writer of lines: each line of what a session answers and explains becomes an
+//! object. `docs/JSON.md` says which members an object has. The crate exports `perform_in_json`, `perform_files_in_json`,
+//! `InJson` and `LineKind`.
 #![tactic(auto)]
 
 mod line;

@@ -4,7 +4,7 @@ use super::numbers::{signed, unsigned};
 use super::object::Object;
 use std::alloc::{AllocError, Global};
 
-/// What a line says, as far as that may be explained.
+/// What a line says, if that may need an explanation.
 #[derive(Clone, Copy)]
 pub(crate) enum Said {
     /// How a run ended.
@@ -53,7 +53,7 @@ fn word(alloc: Global, word: i32) -> Result<LineObject, AllocError> {
     Ok(other(object))
 }
 
-/// The object for a line of no other kind.
+/// The object for a line that is of no other kind.
 pub(crate) fn plain_line(alloc: Global, line: &[u8]) -> Result<Object, AllocError> {
     let mut object = Object::new(alloc, "line")?;
     object.bytes("text", line)?;
@@ -71,7 +71,7 @@ enum End<'a> {
     Wrong(&'a [u8]),
 }
 
-// The end that a line names; nothing if it says something else.
+// The end that a line names; `None` if the line says something else.
 fn end_in(line: &[u8]) -> Option<End<'_>> {
     if line == b"going".as_slice() {
         return Some(End::Bare("going"));
@@ -152,7 +152,7 @@ fn fault(alloc: Global, number: u64, rest: &[u8]) -> Result<LineObject, AllocErr
     })
 }
 
-// The number of the fault whose line this is, and what follows it; nothing if this is another line.
+// The number of the fault whose line this is, and what follows the number; `None` if this is another line.
 fn fault_in(line: &[u8]) -> Option<(u64, &[u8])> {
     let (digits, rest) = split_word(after(line, "fault")?);
     Some((unsigned(digits)?, rest))

@@ -12,7 +12,7 @@ fn is_plain(digits: &[u8]) -> bool {
     }
 }
 
-/// The number that a decimal means; nothing if the text is not such a number.
+/// The number that a decimal means; `None` if the text is not such a decimal.
 pub(crate) fn unsigned(text: &[u8]) -> Option<u64> {
     if !is_plain(text) {
         return None;
@@ -20,7 +20,8 @@ pub(crate) fn unsigned(text: &[u8]) -> Option<u64> {
     str::from_utf8(text).ok()?.parse().ok()
 }
 
-/// The same for a decimal that may begin with `-`, as a number of 32 bits.
+/// The 32-bit signed number that a decimal means, which may begin with `-`; `None` if the text is not such a
+/// decimal.
 pub(crate) fn signed(text: &[u8]) -> Option<i32> {
     let is_number = match text.strip_prefix(b"-") {
         Some(digits) => is_plain(digits) && digits != b"0".as_slice(),

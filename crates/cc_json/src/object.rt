@@ -11,7 +11,7 @@ use serde_json::{Map, Value, put};
 use std::alloc::{AllocError, Global};
 use std::io::{self, Write};
 
-/// The version of what is written. It changes if the meaning of a member changes, and not if a member is added.
+/// The version of what is written. It changes if the meaning of a member changes, but not if a member is added.
 const VERSION: u32 = 1;
 
 /// An object that is made member by member.

@@ -20,7 +20,7 @@ use std::rt::Files;
 const NO_MEMORY: &[u8] =
     b"{\"cclib\":1,\"kind\":\"fault\",\"name\":\"OutOfMemory\",\"number\":40}\n";
 
-// An explanation of nothing.
+// An empty explanation.
 fn nothing(alloc: Global) -> Explanation {
     Explanation {
         words: None,
@@ -183,7 +183,7 @@ fn status_of<W: Write>(written: io::Result<u8>, writer: &mut W) -> u8
 }
 
 /// Performs a task for the text that these texts make up, and writes each thing that `perform_and_explain` writes or explains as
-/// an object of JSON on a line of its own; if it is to be quiet, only what `perform` writes. The status is that of
+/// an object of JSON on a line of its own; if nothing is to be explained, only what `perform` writes. The status is that of
 /// `perform`, but 1 if there was no memory for an object.
 pub fn perform_in_json<H: AllocGlobal, W: Write>(
     rt: &H,

@@ -15,7 +15,7 @@ struct Placed<'a> {
     message: &'a [u8],
 }
 
-// The message that a line has; nothing if it is another line.
+// The message on a line; `None` if the line has no message about a place.
 fn message_in(line: &[u8]) -> Option<Placed<'_>> {
     let mut parts = line.strip_prefix(b"-:")?.splitn(3, |byte| *byte == b':');
     let line = unsigned(parts.next()?)?;
@@ -28,7 +28,7 @@ fn message_in(line: &[u8]) -> Option<Placed<'_>> {
     })
 }
 
-// The object for such a message.
+// The object for a message about a place.
 fn placed_object(alloc: Global, placed: Placed<'_>) -> Result<Object, AllocError> {
     let message = String::from_utf8_lossy(alloc, placed.message)?;
     let message = message.as_str();
@@ -80,7 +80,8 @@ fn is_said(line: &[u8]) -> bool {
     false
 }
 
-/// The object for a line of explanations; nothing if the object for a fault has it already, or if the line only shows the text.
+/// The object for a line of explanations; `None` if the object for a fault already says what the line says, or if the line only
+/// shows the text.
 pub(crate) fn told_object(alloc: Global, line: &[u8]) -> Result<Option<Object>, AllocError> {
     if is_excerpt(line) || is_said(line) {
         return Ok(None);

@@ -7,7 +7,8 @@ use cc_tasks::Explanation;
 use serde_json::Value;
 use std::alloc::{AllocError, Global};
 
-// Adds the place of a byte of all the texts together: the text that has it, and its line and column there.
+// Adds the place of a byte of the joined text: the text that contains the byte, and its line and column in
+// that text.
 fn add_place(object: &mut Object, texts: &[NamedText], at: usize) -> Result<(), AllocError> {
     let Some(found) = place_in(texts, at) else {
         return Ok(());
@@ -30,7 +31,7 @@ pub(crate) fn add_message(object: &mut Object, message: &str) -> Result<(), Allo
     }
 }
 
-// A note about a byte of all the texts together.
+// A note about a byte of the joined text.
 fn note(alloc: Global, texts: &[NamedText], at: usize, words: &str) -> Result<Value, AllocError> {
     let mut note = Object::empty(alloc);
     add_place(&mut note, texts, at)?;
@@ -59,7 +60,7 @@ fn notes_of(
     Ok(notes)
 }
 
-/// Adds an explanation of all the texts together, with the calls that were open.
+/// Adds an explanation about the joined text, with the calls that were open.
 pub(crate) fn add_told(
     alloc: Global,
     object: &mut Object,

@@ -20,8 +20,8 @@ pub enum LineKind {
     Told,
 }
 
-/// A writer of lines. Each line becomes an object of JSON on a line of its own. An incomplete line becomes an object when it is
-/// flushed.
+/// A writer of lines. Each line becomes an object of JSON on a line of its own. An incomplete line becomes an object when the
+/// writer is flushed.
 #[derive(Drop)]
 pub struct InJson<W: Drop> {
     alloc: Global,
@@ -49,7 +49,7 @@ fn answer_object(alloc: Global, line: &[u8]) -> Result<Object, AllocError> {
     Ok(object)
 }
 
-// The object for a line; nothing if the line is left out.
+// The object for a line; `None` if the line is left out.
 fn object_of(alloc: Global, lines: LineKind, line: &[u8]) -> Result<Option<Object>, AllocError> {
     match lines {
         LineKind::Answers => Ok(Some(answer_object(alloc, line)?)),

@@ -1,4 +1,4 @@
-// The command `call`: a unit of the library in a file is run. The file is open until the unit has been read, and nothing is
+// The command `call`: it runs a unit of the library in a file. The file is open until the unit has been read, and nothing is
 // written to it.
 
 ghost use Rattle.std.specs.Prelude.{◌≡◌, false, true};
@@ -19,7 +19,7 @@ use std::io::{BufRead, BufReader, Input, IsTerminal, Write};
 use std::rt::Clock;
 use std::sync::Arc;
 
-// The one run that is asked for.
+// The single run that is asked for.
 fn run_of<E: Write>(
     alloc: Global,
     files: &HostRuntime,
@@ -42,7 +42,7 @@ fn run_of<E: Write>(
     run
 }
 
-// The unit that is to be run line by line.
+// The unit that is to be run once for each line.
 fn unit_of<E: Write>(
     alloc: Global,
     files: &HostRuntime,
@@ -65,7 +65,7 @@ fn answer<W: Write, E: Write>(run: &CountedRun, writer: &mut W, told: &mut E) ->
     settled(write, 0, writer, told)
 }
 
-// Runs a unit line by line. The result is the status.
+// Runs a unit once for each line. The result is the status.
 fn answer_lines<R: BufRead, W: Write, E: Write>(
     alloc: Global,
     unit: &StoredUnit,
@@ -88,7 +88,8 @@ fn answer_lines<R: BufRead, W: Write, E: Write>(
     }
 }
 
-// Runs a unit line by line. A person who sees standard error, but not the answers, is shown how many lines of them there are.
+// Runs a unit once for each line. A person who sees standard error, but not the answers, is shown how many lines have been
+// answered.
 fn answer_lines_seen<R: AllocGlobal + Clock + Copy + Drop, I: BufRead, W: Write + Drop, E: Write>(
     rt: &R,
     files: &HostRuntime,
@@ -112,7 +113,7 @@ fn answer_lines_seen<R: AllocGlobal + Clock + Copy + Drop, I: BufRead, W: Write 
 }
 
 /// Runs a unit of the library in a file on input words, or on the words of each line of standard input. The result is the status.
-/// The error is lack of memory before the command began.
+/// The only error is that memory ran out before the command began.
 pub fn call_in_file<R: AllocGlobal + Clock + Input + Copy + Drop, A: Write + Drop, E: Write + Drop>(
     rt: &R,
     files: &HostRuntime,

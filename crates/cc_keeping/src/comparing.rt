@@ -67,8 +67,8 @@ fn answer<W: Write, E: Write>(lines: &[DiffLine], writer: &mut W, told: &mut E) 
     settled(write, status, writer, told)
 }
 
-/// Writes the differences between the libraries in two files. The result is the status: 0 if they hold the same. The error is
-/// lack of memory before the command began.
+/// Writes the differences between the libraries in two files. The result is the status: 0 if both have the same units. The
+/// only error is that memory ran out before the command began.
 pub fn diff_files<R: AllocGlobal, A: Write + Drop, E: Write + Drop>(
     rt: &R,
     files: &HostRuntime,

@@ -1,7 +1,7 @@
-// The command `copy`: units of the library in a file, in a new library in a file.
+// The command `copy`: it copies units of the library in a file into a new library in another file.
 //
-// The new file is written under a name that only this process uses, and gets its own name through a link when all of it is on the
-// medium: nothing is overwritten, and a power cut or a kill leaves all of it or nothing under that name.
+// The new file is written under a name that only this process uses, and gets its own name through a link once all of it is on the
+// medium: nothing is overwritten, and a power cut or a kill leaves the whole file or nothing under its own name.
 
 ghost use Rattle.std.specs.Prelude.{◌≤◌};
 
@@ -38,12 +38,12 @@ fn selection_of<S: Write, E: Write>(
     selection
 }
 
-// Makes an empty file at a path where nothing may be yet.
+// Makes an empty file at a path; nothing may be there yet.
 fn begin(files: &HostRuntime, path: &str) -> io::Result<()> {
     let mut how = OpenOptions::new();
     how.write(true).create_new(true).mode(OWN);
     let file = how.open(files, path)?;
-    // The umask may have taken some of the rights.
+    // The umask may have removed some of the rights.
     match file.set_permissions(Permissions::from_mode(OWN)) {
         Ok(()) => Ok(()),
         Err(error) => {
@@ -53,7 +53,7 @@ fn begin(files: &HostRuntime, path: &str) -> io::Result<()> {
     }
 }
 
-// The new library in a file that belongs to this call, and is removed again if the library can't be made.
+// Makes the new library in a file that belongs to this call. The file is removed again if that fails.
 fn made(
     alloc: Global,
     files: &HostRuntime,
@@ -81,7 +81,7 @@ fn made(
     Err(answer)
 }
 
-// Says that something has a name that the new file was to have.
+// Explains to a person that something already has the name that the new file was to have.
 fn tell_taken<E: Write>(path: &str, told: &mut E) -> LibraryFault {
     let _ = writeln!(
         told,
@@ -90,7 +90,8 @@ fn tell_taken<E: Write>(path: &str, told: &mut E) -> LibraryFault {
     LibraryFault::DiskFault
 }
 
-// Makes the new library of these units under a name that it has until it is whole. Nothing may have that name yet.
+// Makes the new library of these units under a temporary name, which it keeps until it is complete. Nothing may have that name
+// yet.
 fn write_beside<E: Write>(
     alloc: Global,
     files: &HostRuntime,
@@ -134,7 +135,7 @@ fn write_beside<E: Write>(
     }
 }
 
-// Makes the new library of these units, and says why if it could not.
+// Makes the new library of these units, or says why that failed.
 fn write_new<E: Write>(
     alloc: Global,
     files: &HostRuntime,
@@ -178,8 +179,8 @@ fn write_names<W: Write>(names: &[Name], writer: &mut W) -> io::Result<()> {
     Ok(())
 }
 
-// Writes the names of the units that were copied, what an audit says about those that were left out, and that all is written. The
-// result is whether that could be written.
+// Writes the names of the units that were copied, what an audit says about those that were left out, and that everything is
+// written. The result is whether these lines could be written.
 fn is_told<W: Write>(names: &[Name], left_out: &[LeftOut], writer: &mut W) -> bool {
     if write_names(names, writer).is_err() {
         return false;
@@ -192,7 +193,7 @@ fn is_told<W: Write>(names: &[Name], left_out: &[LeftOut], writer: &mut W) -> bo
     tell_ok(writer).is_ok()
 }
 
-// The selected units, as `selection_of` has them. A person who sees standard error is shown how many units were audited.
+// The selected units, as `selection_of` selects them. A person who sees standard error is shown how many units were audited.
 fn selection_seen<R: AllocGlobal + Clock + Copy + Drop, E: Write>(
     rt: &R,
     files: &HostRuntime,
@@ -212,8 +213,8 @@ fn selection_seen<R: AllocGlobal + Clock + Copy + Drop, E: Write>(
     selection
 }
 
-/// Copies units of the library in a file into a new library in a file. The result is the status: 0 if none was left out. The
-/// error is lack of memory before the command began.
+/// Copies units of the library in a file into a new library in a file. The result is the status: 0 if no unit was left out. The
+/// only error is that memory ran out before the command began.
 pub fn copy_file<R: AllocGlobal + Clock + Print + Copy + Drop, E: Write + Drop>(
     rt: &R,
     files: &HostRuntime,
@@ -230,7 +231,7 @@ pub fn copy_file<R: AllocGlobal + Clock + Print + Copy + Drop, E: Write + Drop>(
         Ok(selection) => selection,
         Err(fault) => return Ok(refuse(fault, &mut writer, &mut told)),
     };
-    // The memory for what is printed is taken before the new file is made.
+    // The memory for what is printed is allocated before the new file is made.
     let Ok(names) = selection.units.names(rt.alloc()) else {
         return Ok(refuse(PartFault::OutOfMemory, &mut writer, &mut told));
     };

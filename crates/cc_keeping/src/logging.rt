@@ -1,4 +1,4 @@
-// The command `log`: what was added, replaced and withdrawn in the library in a file. Nothing is written to it.
+// The command `log`: it shows what was added, replaced and withdrawn in the library in a file. Nothing is written to it.
 
 ghost use Rattle.std.specs.Prelude.{◌≡◌, false, true, option_map};
 ghost use Rattle.std.specs.Io.KnownBytes.{Appends};
@@ -54,7 +54,7 @@ fn answer<W: Write, E: Write>(
     settled(write, 0, writer, told)
 }
 
-// Writes the lines that are asked for, or why not. The result is the status.
+// Writes the lines that are asked for, or the line for a fault. The result is the status.
 fn tell<W: Write, E: Write>(
     commands: &[LibraryCommand],
     name: Option<&str>,
@@ -68,7 +68,7 @@ fn tell<W: Write, E: Write>(
 }
 
 /// Writes the commands of the library in a file since its last compaction, or those about one name. The result is the status. The
-/// error is lack of memory before the command began.
+/// only error is that memory ran out before the command began.
 pub fn log_of_file<R: AllocGlobal, A: Write + Drop, E: Write + Drop>(
     rt: &R,
     files: &HostRuntime,

@@ -1,4 +1,5 @@
-// The command `size` with DISK and NAME: what the image of a unit of the library in a file takes. Nothing is written to the file.
+// The command `size` with DISK and NAME: it says how much memory a unit's image takes. The unit comes from the library in a
+// file, and nothing is written to the file.
 
 use crate::telling::{refuse, unwritten};
 use cc_answers::tell_audit;
@@ -43,8 +44,9 @@ fn answer<W: Write, E: Write>(name: &[u8], size: &StoredSize, writer: &mut W, to
     }
 }
 
-/// Writes what the image of a unit of the library in a file takes, or the line of an audit that does not confirm it. The result
-/// is the status: 0 if it is confirmed. The error is lack of memory before the command began.
+/// Writes how much memory the image of a unit takes, or the line of an audit that does not confirm the unit. The unit comes
+/// from the library in a file. The result is the status: 0 if the unit is confirmed. The only error is that memory ran out
+/// before the command began.
 pub fn size_in_file<R: AllocGlobal, A: Write + Drop, E: Write + Drop>(
     rt: &R,
     files: &HostRuntime,

@@ -13,7 +13,7 @@ use std::io::{self, IsTerminal, Print, Write};
 const NOT_STORED: &str =
     "cclib: that command stored no unit under the name: `cclib log DISK NAME` has those that did\n";
 
-// Says that a command stored nothing under the name, if that is the fault.
+// Explains that a command stored nothing under the name, if that is the fault.
 fn explain_absent<T, E: Write>(found: &Result<T, PartFault>, told: &mut E) {
     if let Err(PartFault::Absent) = found {
         let _ = told.write_all(NOT_STORED.as_bytes());
@@ -21,7 +21,7 @@ fn explain_absent<T, E: Write>(found: &Result<T, PartFault>, told: &mut E) {
     }
 }
 
-// The bytes of what is wanted.
+// The bytes of the part that is wanted.
 fn bytes_of(
     alloc: Global,
     files: &HostRuntime,
@@ -36,7 +36,8 @@ fn bytes_of(
 }
 
 /// Writes to standard output a part of what the command with this number stored in the library in a file. The result is the
-/// status. On a terminal, control bytes of the source are shown as `?`. The error is lack of memory before the command began.
+/// status. On a terminal, control bytes of the source are shown as `?`. The only error is that memory ran out before the
+/// command began.
 pub fn take_out_of_past<R: AllocGlobal + Print, E: Write + Drop>(
     rt: &R,
     files: &HostRuntime,
@@ -61,8 +62,8 @@ fn restored(alloc: Global, files: &HostRuntime, asked: &Restoring) -> Result<(),
     answer
 }
 
-/// Puts back what a command of the library in a file stored. The result is the status. The error is lack of memory before it
-/// began.
+/// Puts back what a command of the library in a file stored. The result is the status. The only error is that memory ran out
+/// before the command began.
 pub fn restore_in_file<R: AllocGlobal + Print, E: Write + Drop>(
     rt: &R,
     files: &HostRuntime,

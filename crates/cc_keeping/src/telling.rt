@@ -1,4 +1,4 @@
-// The line for a fault, and its explanation to a person.
+// Writes the line for a fault, and explains the fault to a person.
 
 ghost use Rattle.std.specs.Prelude.{◌≡◌, false, true, IsOk};
 ghost use Rattle.std.specs.Io.KnownBytes.{Keeps};
@@ -8,7 +8,7 @@ use cc_filing::explain_part;
 use cc_tasks::{Done, PartFault};
 use std::io::{self, Write};
 
-/// Says that an answer could not be written. The result is the status.
+/// Explains that an answer could not be written. The result is the status.
 pub(crate) fn unwritten<E: Write>(told: &mut E) -> u8
     ensures { result ≡ 1 }
 {
@@ -16,7 +16,8 @@ pub(crate) fn unwritten<E: Write>(told: &mut E) -> u8
     1
 }
 
-/// Flushes the writer after an answer. The result is this status if the answer is written; else it is 1, and a person reads why.
+/// Flushes the writer after an answer. The result is the given status if the answer was written; else it is 1, and this is
+/// explained to a person.
 pub(crate) fn settled<W: Write, E: Write>(
     write: io::Result<()>,
     status: u8,

@@ -1,4 +1,5 @@
--- A change of the map in two halves, as a library makes it: first what needs memory, the rest after the journal's answer.
+-- A change of the map in two halves, as a library makes it: first what needs memory, and the rest after the journal has
+-- answered.
 use Rattle.std.proofs.Common.{◌≡◌, ◌≢◌, Bool, true, false, cond, refl, sym, ap, ◌∙◌, ℕ}
 use Rattle.std.specs.Prelude.{Option, Some, None, Result, Ok, Err, IsOk, is_some}
 use Rattle.std.specs.Cmp.Lexicographic.{nat_list_cmp_total}
@@ -9,7 +10,7 @@ use Rattle.cc_library.specs.Apply.{Units, apply, after, kept, refusal, exists, a
 use Rattle.cc_library.specs.internal.Halves.{begun, finished, undone}
 use Rattle.cc_library.proofs.Tables.{put_and_taken}
 
--- an answer without a number of a refusal accepts the command
+-- an answer that has no refusal's number accepts the command
 pub is_accepted : (answer : Result Units ℕ) → refusal answer ≡ None → IsOk answer
 is_accepted (Ok made) e = refl
 is_accepted (Err number) e = absurd (cc e)
@@ -18,12 +19,12 @@ pub accepted_where : (answer : Result Units ℕ) (number : Option ℕ) → numbe
 accepted_where (Ok made) number is none = refl
 accepted_where (Err n) number is none = let no : true ≡ false = sym (ap is_some is) ∙ none in absurd (cc)
 
--- the number that refuses is the answer's
+-- if the refusal of an answer is `number`, the answer is an error with this number
 pub refused_by : (answer : Result Units ℕ) (number : ℕ) → Some number ≡ refusal answer → answer ≡ Err number
 refused_by (Ok made) number is = absurd (cc is)
 refused_by (Err n) number is = cc is
 
--- a refusal of an absent name has the number 32
+-- if a change that needs a present name is refused, the number is 32
 absent_where : (there : Bool) (made : Units) (number : ℕ) → Some number ≡ refusal (cond there (Ok made) (Err absent)) → cond there (Ok made) (Err absent) ≡ Err absent
 absent_where true made number is = absurd (cc is)
 absent_where false made number is = refl
@@ -49,7 +50,7 @@ withdrawn : (there : Bool) (units made : Units) → IsOk {T = Units} {E = ℕ} (
 withdrawn true units made ok = refl
 withdrawn false units made ok = absurd (cc ok)
 
--- a change that was begun and finished is made
+-- beginning and finishing a command that is accepted makes the change
 pub finished_is : (units : Units) (command : LibraryCommand) → IsOk (apply units command) → finished (begun units command) command ≡ after units command
 finished_is units (Add name unit) ok = added (map.contains_key units name) units (map.insert units name unit) ok
 finished_is units (Replace name unit) ok = replaced (map.contains_key units name) units (map.insert units name unit)
@@ -59,7 +60,7 @@ was_absent : (there : Bool) (made : Units) → IsOk {T = Units} {E = ℕ} (cond 
 was_absent true made ok = absurd (cc ok)
 was_absent false made ok = refl
 
--- a change that was begun and undone leaves the map as it was
+-- beginning and undoing a command that is accepted leaves the map as it was
 pub undone_is : (units : Units) (command : LibraryCommand) → IsOk (apply units command) → undone (begun units command) command ≡ units
 undone_is units (Add name unit) ok =
     put_and_taken nat_list_cmp_total (map.slice_cmp-IsAntisymmetric map.nat_cmp-IsAntisymmetric) units name unit

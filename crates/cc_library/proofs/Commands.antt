@@ -1,4 +1,5 @@
--- A command that is read is spelled by the bytes, and a command that is spelled, in either version, is read.
+-- If a command is read from bytes, they spell it; and if bytes spell a command, in either version, it is read
+-- from them.
 use Rattle.std.proofs.Common.{◌≡◌, ◌⊎◌, inl, inr, ℕ, zero, suc, Bool, true, false, ◌&&◌, cond, eqb, List, [], ◌∷◌, ◌++◌, length, Option, Some, None, refl, sym, ap, subst, ◌∙◌, arith}
 use Rattle.std.specs.Prelude.{IsTrue, ◌||◌}
 use Rattle.std.proofs.lemmas.Bool.{eqb-true, ne_eqb}
@@ -90,7 +91,7 @@ has_name (Withdraw name) is = is
 
 -- ---- versions
 
--- there are two versions
+-- the version is 1 or 2
 abbrev is_version : ℕ → Bool
 is_version version = eqb version 1 || eqb version 2
 
@@ -106,7 +107,7 @@ not_two : (version : ℕ) → (version ≡ 1) ⊎ (version ≡ 2) → eqb versio
 not_two version (inl one) e = one
 not_two version (inr two) e = let no = sym (ap (λ (v : ℕ). eqb v 2) two) ∙ e in absurd (cc)
 
--- the version of a unit is the one that its certificate needs
+-- if a certificate, or none, occurs in this version, the version is the one that the certificate needs
 asked : (version : ℕ) (certificate : Option (List ℕ)) → (version ≡ 1) ⊎ (version ≡ 2) → StandsIn version certificate → version ≡ certificate_version certificate
 asked version None known stands = not_two version known stands
 asked version (Some certificate) known stands = eqb-true _ _ stands
@@ -168,17 +169,17 @@ command_again version command has is =
     let known = known_version version command has in
     ap command_in (in_parts version command) ∙ rw (name, kind_again version command (has_units version command has is), known) refl
 
--- whatever spells a command is read as that command
+-- if bytes spell a command, this command is read from them
 pub spelled_is_read : (bytes : List ℕ) (command : LibraryCommand) → Spells bytes command → command_in bytes ≡ Some command
 spelled_is_read bytes command p = ap command_in p.spelled ∙ command_again p.version command p.has_version p.command_is
 
--- no two commands have the same spelling
+-- bytes spell at most one command
 pub one_command : (bytes : List ℕ) (a b : LibraryCommand) → Spells bytes a → Spells bytes b → a ≡ b
 one_command bytes a b p q = same_Some a b (sym (spelled_is_read bytes a p) ∙ spelled_is_read bytes b q)
 
 -- ---- what is written
 
--- what is written is a spelling
+-- the written body of a possible command spells the command
 pub written : (command : LibraryCommand) → IsCommand command → Spells (body_of command) command
 written (Add name unit) is = record { version = certificate_version unit.certificate; has_version = refl; spelled = refl; command_is = is }
 written (Replace name unit) is = record { version = certificate_version unit.certificate; has_version = refl; spelled = refl; command_is = is }
@@ -187,7 +188,7 @@ written (Withdraw name) is = record { version = 2; has_version = inr refl; spell
 pub spells_as_written : (body : List ℕ) (command : LibraryCommand) → body ≡ body_of command → IsCommand command → Spells body command
 spells_as_written body command is command_is = subst (λ (b : List ℕ). Spells b command) (sym is) (written command command_is)
 
--- an Add has no other spelling
+-- the only bytes that spell an Add are its written body
 pub add_is_written : (body name : List ℕ) (unit : StoredUnit) → Spells body (Add name unit) → body ≡ body_of (Add name unit)
 add_is_written body name unit p = p.spelled ∙ ap (λ (v : ℕ). spelling v (Add name unit)) p.has_version
 

@@ -1,5 +1,5 @@
--- One Add per name represents the map. The reason: starting from the map of the entries before them, the Adds of the next entries
--- lead to the map of all. Each is accepted, since in a list with ascending names no name is among those before it.
+-- One Add per name represents the map. The reason: the Adds of some entries, starting from the map of the entries before them,
+-- lead to the map of all these entries. Each Add is accepted, since in a list with ascending names no name occurs earlier.
 use Rattle.std.proofs.Common.{◌≡◌, ℕ, ◌+◌, ◌-◌, ◌<◌, ◌≤◌, length, List, [], ◌∷◌, ◌++◌, Bool, true, false, ◌&&◌, refl, sym, ap, subst, ◌∙◌, append_assoc, length-append, cond, Some, None, arith}
 use Rattle.std.specs.Int.{w32, to_le_bytes}
 use Rattle.std.specs.Prelude.{T, IsOk, Ok, Err, if◌then◌else◌, is_some, Result}
@@ -46,7 +46,7 @@ below_there : (x : List ℕ) (prefix rest : List Entry) (e : Entry) → T (below
 below_there x [] rest e h = less (R x e.0) (first (is_lt (R x e.0)) (below_all R x rest) h)
 below_there x (f ∷ prefix) rest e h = below_there x prefix rest e (second (is_lt (R x f.0)) (below_all R x (prefix ++ e ∷ rest)) h)
 
--- in a list with ascending names no name is among those before it
+-- in a list with ascending names, the name of an entry is not among the names before it
 not_before : (prefix rest : List Entry) (e : Entry) → T (is_sorted R (prefix ++ e ∷ rest)) → find R e.0 prefix ≡ None
 not_before [] rest e sorted = refl
 not_before (f ∷ prefix) rest e sorted =
@@ -76,18 +76,18 @@ leads prefix (e ∷ es) sorted =
       ap (λ (m : Units). after_all m (adds es)) on ∙ rest.1 ∙ ap (λ (l : List Entry). map.from_entries l) parts,
     )
 
--- a map is the map of its entries
+-- a map is equal to the map made from its entries
 whole : (units : Units) → units ≡ map.from_entries (map.entries units)
 whole units = map.same_map nat_list_cmp_total (map.slice_cmp-IsAntisymmetric map.nat_cmp-IsAntisymmetric) units (map.from_entries (map.entries units))
     (λ q. map.get-entries units q ∙ sym (map.get-from_entries nat_list_cmp_total (map.entries units) q))
 
--- bodies of one Add per name represent the map
+-- bodies that spell one Add per name of a map represent the map
 pub adds_stand : (units : Units) (bodies : List (List ℕ)) → AreSpelled bodies (adds_of units) → StandFor bodies units
 adds_stand units bodies spelled =
     let all = leads [] (map.entries units) (map.entries_sorted units) in
     record { commands = adds_of units; spelled = spelled; accepted = all.0; map_is = whole units ∙ sym all.1 }
 
--- bodies that spell these Adds are their bodies as they are written
+-- if bodies spell the Adds of some entries, they are the written bodies of these Adds
 pub spelled_bodies : (bodies : List (List ℕ)) (es : List Entry) → AreSpelled bodies (adds es) → bodies ≡ bodies_of (adds es)
 spelled_bodies [] [] spelled = refl
 spelled_bodies [] (e ∷ es) spelled = absurd spelled
@@ -102,38 +102,38 @@ spelled_compacted bodies units spelled = spelled_bodies bodies (map.entries unit
 
 -- ---- the room that they take
 
--- the room of some records and one more
+-- one more record adds its body's length and five bytes to the room
 pub room_record : (bodies : List (List ℕ)) (body : List ℕ) → room_of (bodies ++ body ∷ []) ≡ room_of bodies + (length body + 5)
 room_record [] body = omega (arith, length-append (record_bytes body) [], record_long body)
 room_record (b ∷ bodies) body = omega (arith, room_record bodies body, length-append (record_bytes b) (records (bodies ++ body ∷ [])), length-append (record_bytes b) (records bodies))
 
--- if the body is longer than what the area leaves for it, there is no room for one more record
+-- if a body is at least as long as the area less five bytes, its record does not fit
 pub no_room_left : (bodies : List (List ℕ)) (body : List ℕ) (area n : ℕ) → n ≡ length body → area - 5 ≤ n → room_of (bodies ++ body ∷ []) ≤ area → ⊥
 no_room_left bodies body area n long few fits = omega (arith, room_record bodies body, long, few, fits)
 
--- otherwise there is room for one more record exactly if the others leave it
+-- if a body is shorter than that, its record fits exactly if the other records leave enough room
 pub room_left : (bodies : List (List ℕ)) (body : List ℕ) (area n left : ℕ) → n ≡ length body → n < area - 5 → left ≡ area - 5 - n
     → (room_of bodies ≤ left → room_of (bodies ++ body ∷ []) ≤ area) × (room_of (bodies ++ body ∷ []) ≤ area → room_of bodies ≤ left)
 room_left bodies body area n left long few is = (λ le. omega (arith, room_record bodies body, long, few, is, le), λ le. omega (arith, room_record bodies body, long, few, is, le))
 
--- the room of some entries and one more
+-- one more entry adds the length of its Add's body and five bytes to the room
 pub room_push : (es : List Entry) (e : Entry) → room_of (bodies_of (adds (es ++ e ∷ []))) ≡ room_of (bodies_of (adds es)) + (length (body_of (Add e.0 e.1)) + 5)
 room_push [] e = omega (arith, length-append (record_bytes (body_of (Add e.0 e.1))) [], record_long (body_of (Add e.0 e.1)))
 room_push (f ∷ es) e =
     omega (arith, room_push es e, length-append (record_bytes (body_of (Add f.0 f.1))) (records (bodies_of (adds (es ++ e ∷ [])))), length-append (record_bytes (body_of (Add f.0 f.1))) (records (bodies_of (adds es))))
 
--- some of the entries take at most as much room as all
+-- the first entries of a list take at most as much room as all its entries
 pub room_prefix : (prefix rest : List Entry) → room_of (bodies_of (adds prefix)) ≤ room_of (bodies_of (adds (prefix ++ rest)))
 room_prefix [] rest = omega arith
 room_prefix (f ∷ prefix) rest =
     omega (arith, room_prefix prefix rest, length-append (record_bytes (body_of (Add f.0 f.1))) (records (bodies_of (adds (prefix ++ rest)))), length-append (record_bytes (body_of (Add f.0 f.1))) (records (bodies_of (adds prefix))))
 
--- the body of one entry is shorter than the room of all
+-- the body of one entry's Add is shorter than the room of all entries
 pub room_one : (prefix rest : List Entry) (e : Entry) → length (body_of (Add e.0 e.1)) < room_of (bodies_of (adds (prefix ++ e ∷ rest)))
 room_one [] rest e = omega (arith, length-append (record_bytes (body_of (Add e.0 e.1))) (records (bodies_of (adds rest))), record_long (body_of (Add e.0 e.1)))
 room_one (f ∷ prefix) rest e = omega (arith, room_one prefix rest e, length-append (record_bytes (body_of (Add f.0 f.1))) (records (bodies_of (adds (prefix ++ e ∷ rest)))))
 
--- bodies that spell some Adds, and one more, spell one more Add
+-- if bodies spell the Adds of some entries, and one more body spells one more Add, together they spell all these Adds
 pub spelled_push : (bodies : List (List ℕ)) (es : List Entry) (body : List ℕ) (e : Entry) → AreSpelled bodies (adds es) → Spells body (Add e.0 e.1) → AreSpelled (bodies ++ body ∷ []) (adds (es ++ e ∷ []))
 spelled_push [] [] body e spelled one = (one, tt)
 spelled_push [] (f ∷ es) body e spelled one = absurd spelled

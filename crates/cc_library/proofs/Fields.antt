@@ -1,4 +1,5 @@
--- For each kind of field, up to the unit: what is read is what was written, and what was written is read again.
+-- For each kind of field, up to the unit: reading gives back what was written, and writing gives back what was
+-- read.
 use Rattle.std.proofs.Common.{◌≡◌, ℕ, zero, suc, ◌^◌, ◌<◌, ◌≤◌, Bool, true, false, ◌&&◌, cond, ltb, eqb, List, [], ◌∷◌, ◌++◌, length, get_or, take, drop, Option, Some, None, refl, sym, ap, subst, ◌∙◌, append_assoc, arith}
 use Rattle.std.specs.Prelude.{IsTrue, nat_le}
 use Rattle.std.specs.List.{flat_map}
@@ -15,17 +16,17 @@ use Rattle.cc_library.specs.internal.Reading.{◌>>=◌, taken, number_in, words
 
 -- ---- tools
 
--- if two steps find something, so does the first, and the second finds it from that
+-- if two steps in a row find `y`, the first one finds some `x`, and the second one finds `y` from `x`
 pub bind_some : {A B : Type 0} (o : Option A) (f : A → Option B) (y : B) → (o >>= f) ≡ Some y → (x : A) × (o ≡ Some x) × (f x ≡ Some y)
 bind_some (Some x) f y e = (x, refl, e)
 bind_some None f y e = absurd (none-some y e)
 
--- if the value comes only when a test fails, the test failed
+-- if a value comes only when a test fails, and it came, the test failed
 pub unless_some : {A : Type 0} (b : Bool) (x y : A) → cond b None (Some x) ≡ Some y → (b ≡ false) × (x ≡ y)
 unless_some true x y e = absurd (none-some y e)
 unless_some false x y e = (refl, same_Some x y e)
 
--- if the value comes only when a test holds, the test holds
+-- if a value comes only when a test holds, and it came, the test held
 pub when_some : {A : Type 0} (b : Bool) (o : Option A) (y : A) → cond b o None ≡ Some y → (b ≡ true) × (o ≡ Some y)
 when_some true o y e = (refl, e)
 when_some false o y e = absurd (none-some y e)
@@ -53,7 +54,7 @@ drop-below limit zero numbers below = below
 drop-below limit (suc k) [] below = tt
 drop-below limit (suc k) (n ∷ numbers) below = drop-below limit k numbers below.1
 
--- what a reader took from the start
+-- a reader takes `text` from the start of `bytes` and leaves `rest`
 pub record Takes (bytes text rest : List ℕ) : Type 0 where
   pub parts : bytes ≡ text ++ rest
   pub below : AreBelow 256 rest
@@ -61,14 +62,14 @@ pub record Takes (bytes text rest : List ℕ) : Type 0 where
 pub Takes-then : (a x b y c : List ℕ) → Takes a x b → Takes b y c → Takes a (x ++ y) c
 Takes-then a x b y c p q = record { parts = p.parts ∙ ap (λ (t : List ℕ). x ++ t) q.parts ∙ sym (append_assoc x y c); below = q.below }
 
--- reading and writing undo each other for the values that have P
+-- reading and writing undo each other for values with the property `P`
 pub record IsField {X : Type 0} (read : List ℕ → Option (X × List ℕ)) (write : X → List ℕ) (P : X → Type 0) : Type 0 where
   pub takes : (bytes : List ℕ) (x : X) (rest : List ℕ) → AreBelow 256 bytes → read bytes ≡ Some (x, rest) → Takes bytes (write x) rest × P x
   pub again : (x : X) (rest : List ℕ) → P x → read (write x ++ rest) ≡ Some (x, rest)
 
 -- ---- numbers
 
--- four bytes that spell a number, whatever the spelling
+-- `spell` writes a number as four bytes, and `value` reads it from them
 record IsWide (spell : ℕ → List ℕ) (value : List ℕ → ℕ) : Type 0 where
   len : (n : ℕ) → length (spell n) ≡ 4
   back : (bytes : List ℕ) (n : ℕ) → length bytes ≡ 4 → AreBelow 256 bytes → n ≡ value bytes → spell n ≡ bytes
@@ -225,7 +226,7 @@ name_fields = record { takes = name_takes; again = name_again }
 
 -- ---- a certificate
 
--- a unit has a certificate in version 2, and in no other version
+-- there is a certificate exactly if the version is 2
 abbrev pub StandsIn : (version : ℕ) → Option (List ℕ) → Type 0
 StandsIn version None = eqb version 2 ≡ false
 StandsIn version (Some certificate) = eqb version 2 ≡ true
@@ -266,7 +267,7 @@ certificate_again version (Some certificate) rest is stands =
 
 -- ---- a unit
 
--- the units that a body in this version can have
+-- a body in this version can have this unit
 abbrev pub IsUnitIn : (version : ℕ) → StoredUnit → Type 0
 IsUnitIn version unit = IsUnit unit × StandsIn version unit.certificate
 

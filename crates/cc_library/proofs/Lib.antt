@@ -1,15 +1,15 @@
--- How a library is shown to be its log, read through the records. If an image has only these records, it recovers only to their map, since
--- a body is spelled by one command (Commands, Standing). So each clause of a change is the log's clause (Changing). Names compare as the
--- numbers of their first eight bytes do, if these differ: if the number so far is larger, it stays larger, whatever comes after it
--- (Prefix).
+-- How a library's clauses follow from those of its log. If an image has only certain records, it recovers only to the map that they
+-- represent, since a body spells only one command (Commands, Standing). So the clauses of a change follow from the log's clauses
+-- (Changing). Names compare as the numbers of their first eight bytes do, if these numbers differ: if one number is larger so far, it
+-- stays larger, whatever bytes follow (Prefix).
 --
 -- a `BTreeMap` as a finite map
 pub mod Tables
 -- words read one after the other
 pub mod Words
--- what is read is what was written: for each kind of field
+-- for each kind of field, what is read is what was written
 pub mod Fields
--- a command that is read is the one that the bytes spell
+-- the command that is read is the one that the bytes spell
 pub mod Commands
 -- the map that records represent, with one more record
 pub mod Standing
@@ -23,9 +23,9 @@ pub mod Opening
 pub mod Running
 -- one Add per name represents the map
 pub mod Compacting
--- the whole promise of a change and of a compaction
+-- the promises of a change and of a compaction, put together
 pub mod Whole
 pub mod Room
 mod Sizes
--- names compare as the numbers of their prefixes do
+-- names compare as the numbers of their prefixes do, if these numbers differ
 pub mod Prefix

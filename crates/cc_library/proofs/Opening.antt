@@ -35,7 +35,7 @@ replay_refused honest seen area bodies before behind Absent holds faults same = 
 replay_refused honest seen area bodies before behind Full holds faults same = absurd faults
 replay_refused honest seen area bodies before behind Closed holds faults same = absurd faults
 
--- a refusal of the journal becomes the library's
+-- if the journal's refusal to open is right, the library's refusal with the same number is right
 pub journal_refused : (honest : Bool) (seen : List ℕ) (before behind : ℕ) (fault : JournalFault) → journals.OpenFaults honest seen before behind fault → OpenFaults honest seen before behind (fault_of fault)
 journal_refused honest seen before behind journal.DiskFault faults = faults
 journal_refused honest seen before behind journal.NotALibrary faults = faults
@@ -44,6 +44,6 @@ journal_refused honest seen before behind journal.OutOfMemory faults = faults
 journal_refused honest seen before behind journal.Full faults = absurd faults
 journal_refused honest seen before behind journal.Closed faults = absurd faults
 
--- a list without records represents the empty map and no other
+-- if a list of records is empty, it represents only the empty map
 pub new_map : (bodies : List (List ℕ)) (units : Units) → bodies ≡ [] → StandFor bodies units → units ≡ empty
 new_map bodies units none stand = one_map empty [] units empty (subst (λ (bs : List (List ℕ)). StandFor bs units) none stand) (none_left empty)

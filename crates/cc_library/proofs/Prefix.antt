@@ -1,4 +1,4 @@
--- Names compare as the numbers of their prefixes do, if these differ.
+-- Names compare as the numbers of their prefixes do, if these numbers differ.
 use Rattle.std.proofs.Common.{◌≡◌, ℕ, zero, suc, ◌+◌, ◌*◌, ◌<◌, ◌≤◌, List, [], ◌∷◌, get_or, drop, length, Bool, true, false, ◌&&◌, Ordering, Less, Equal, Greater, inl, inr, refl, ap, ◌∙◌, subst, arith}
 use Rattle.std.proofs.lemmas.Bool.{leb-true, eqb-true}
 use Rattle.std.specs.Prelude.{◌⊎◌, ◌||◌, ◌==◌, nat_le, nat_lt}
@@ -13,7 +13,7 @@ use Rattle.cc_library.proofs.Fields.{both_true}
 
 -- ---- the number of a prefix
 
--- the number of a prefix after one more byte
+-- once byte `k` is taken into the number of a prefix, the bytes after it are left
 at_byte : (a n k : ℕ) (bytes : List ℕ) → prefix_number a (suc n) (drop k bytes) ≡ prefix_number (a * 256 + get_or bytes k 0) n (drop (suc k) bytes)
 unfolding prefix_number
 at_byte a n zero [] = ap (λ (m : ℕ). prefix_number m n []) (omega arith)
@@ -27,7 +27,7 @@ ended a bytes = refl
 
 -- ---- how two prefixes compare
 
--- if the number so far is larger, it stays larger, whatever comes after it
+-- if one number is larger so far, it stays larger, whatever bytes follow
 stays : (a b n : ℕ) (xs ys : List ℕ) → a < b → AreBelow 256 xs → prefix_number a n xs < prefix_number b n ys
 unfolding prefix_number
 stays a b zero xs ys lt below = lt
@@ -36,7 +36,7 @@ stays a b (suc n) [] (y ∷ ys) lt below = stays (a * 256) (b * 256 + y) n [] ys
 stays a b (suc n) (x ∷ xs) [] lt below = stays (a * 256 + x) (b * 256) n xs [] (omega (arith, lt, below.0)) below.1
 stays a b (suc n) (x ∷ xs) (y ∷ ys) lt below = stays (a * 256 + x) (b * 256 + y) n xs ys (omega (arith, lt, below.0)) below.1
 
--- the number without further bytes is the least
+-- the number is least if no bytes follow
 least : (a n : ℕ) (xs : List ℕ) → prefix_number a n [] ≤ prefix_number a n xs
 unfolding prefix_number
 least a zero xs = omega arith
@@ -44,7 +44,7 @@ least a (suc n) [] = omega arith
 least a (suc n) (zero ∷ xs) = subst (λ (m : ℕ). prefix_number (a * 256) n [] ≤ prefix_number m n xs) (omega arith) (least (a * 256) n xs)
 least a (suc n) (suc x ∷ xs) = omega (arith, stays (a * 256) (a * 256 + suc x) n [] xs (omega arith) tt)
 
--- how two prefixes compare, depending on how their first bytes compare
+-- two prefixes compare as their first bytes do, or, if these are equal, as their other bytes do
 by_first : (a n x y : ℕ) (xs ys : List ℕ) (o : Ordering) → MatchOrdering o (x < y) (x ≡ y) (y < x) → x < 256 → y < 256 → AreBelow 256 xs → AreBelow 256 ys
     → (x ≡ y → MatchOrdering (slice_cmp nat_cmp xs ys) (prefix_number (a * 256 + x) n xs < prefix_number (a * 256 + y) n ys) (prefix_number (a * 256 + x) n xs ≡ prefix_number (a * 256 + y) n ys)
     (prefix_number (a * 256 + y) n ys < prefix_number (a * 256 + x) n xs))
@@ -66,14 +66,14 @@ fits a (suc n) (x ∷ xs) (y ∷ ys) below below2 differ = by_first a n x y xs y
     → MatchOrdering (slice_cmp nat_cmp xs ys) (prefix_number (a * 256 + x) n xs < prefix_number (a * 256 + z) n ys) (prefix_number (a * 256 + x) n xs ≡ prefix_number (a * 256 + z) n ys)
     (prefix_number (a * 256 + z) n ys < prefix_number (a * 256 + x) n xs)) e (fits (a * 256 + x) n xs ys below.1 below2.1) differ)
 
--- bytes compare as the numbers of their prefixes do
+-- bytes compare as the numbers of their prefixes do, if these numbers differ
 pub by_prefixes : (xs ys : List ℕ) → AreBelow 256 xs → AreBelow 256 ys → (prefix_number 0 8 xs ≡ prefix_number 0 8 ys → ⊥) → slice_cmp nat_cmp xs ys ≡ nat_cmp (prefix_number 0 8 xs) (prefix_number 0 8 ys)
 by_prefixes xs ys below below2 differ = nat_cmp_is (prefix_number 0 8 xs) (prefix_number 0 8 ys) (slice_cmp nat_cmp xs ys) (fits 0 8 xs ys below below2 differ)
 
 abbrev horner : ℕ → ℕ → ℕ
 horner so_far byte = so_far * 256 + byte
 
--- the number of the first eight bytes
+-- the number of a prefix, written out for its eight bytes
 pub prefix_is : (bytes : List ℕ) → prefix_number 0 8 bytes
     ≡ horner (horner (horner (horner (horner (horner (horner (horner 0 (get_or bytes 0 0)) (get_or bytes 1 0)) (get_or bytes 2 0)) (get_or bytes 3 0)) (get_or bytes 4 0)) (get_or bytes 5 0)) (get_or bytes 6 0)) (get_or bytes 7 0)
 prefix_is bytes =
@@ -112,7 +112,7 @@ all_below (byte ∷ bytes) e =
     let both = both_true (is_name_byte byte) (list_all is_name_byte bytes) e in
     (later_below byte both.0, all_below bytes both.1)
 
--- the bytes of a name are bytes
+-- the bytes of a name are below 256
 pub name_below : (bytes : List ℕ) → is_name bytes ≡ true → AreBelow 256 bytes
 name_below [] e = absurd (cc)
 name_below (first ∷ later) e =

@@ -1,5 +1,5 @@
--- A change that was refused. Without a device call every image still recovers to the old map. Also: what is left after a refusal
--- by the journal, and whether the library is closed then.
+-- What holds after a refused change. If no device call was made, every image still recovers to the old map. The file also shows
+-- what a refusal by the journal leaves, and whether the library is then closed.
 use Rattle.std.proofs.Common.{◌≡◌, ◌≢◌, ℕ, ◌<◌, ◌≤◌, List, [], ◌∷◌, ◌++◌, Bool, true, false, IsTrue, sym, ap, subst, ◌∙◌, refl, arith}
 use Rattle.std.specs.Prelude.{Err, IsOk}
 use Rattle.cc_disk.specs.Images.{LeavesOnly}
@@ -25,7 +25,7 @@ module _ {D : Type 0} where
   abbrev pub seen_as : journals.View D → Units → Bool → View D
   seen_as j units closed = record { disk = j.disk; area = j.area; bodies = j.bodies; units = units; closed = closed }
 
-  -- what holds at each moment if no device call was made
+  -- if no device call was made, every image at each moment has the old records
   pub quiet_edit : (made : View D → List (List ℕ)) (result : View D → Units) (honest : Bool) (moment : D → ℕ) (left_since : D → ℕ → List ℕ → Type 0) (may_leave : D → List ℕ → Type 0) (j : journals.View D) (units : Units) (closed : Bool) (old : View D)
       → seen_as j units closed ≡ old → StandFor j.bodies units → closed ≡ j.closed
       → (IsTrue honest → j.closed ≡ false → (image : List ℕ) → may_leave j.disk image → HoldsAlone image j.area j.bodies)
@@ -45,7 +45,7 @@ module _ {D : Type 0} where
   quiet_change honest moment left_since may_leave j units closed old command is stand same kept only_now d d_is =
       quiet_edit (λ v. v.bodies ++ body_of command ∷ []) (λ v. after v.units command) honest moment left_since may_leave j units closed old is stand same kept only_now d d_is
 
-  -- the same, only for the map
+  -- if no device call was made, every image at each moment recovers to the old map
   pub still_map : (P : List ℕ → Type 0) (honest : Bool) (moment : D → ℕ) (left_since : D → ℕ → List ℕ → Type 0) (may_leave : D → List ℕ → Type 0) (j : journals.View D) (units : Units) (closed : Bool) (old : View D)
       → seen_as j units closed ≡ old → StandFor j.bodies units → closed ≡ j.closed
       → (IsTrue honest → j.closed ≡ false → (image : List ℕ) → may_leave j.disk image → HoldsAlone image j.area j.bodies)
@@ -62,7 +62,7 @@ module _ {D : Type 0} where
   still_open : (old new : journals.View D) (is_fault : Bool) → is_fault ≡ false → old.closed ≡ false → new ≡ old → is_fault ≡ new.closed
   still_open old new is_fault e was same = e ∙ sym (ap (λ (j : journals.View D). j.closed) same ∙ was)
 
-  -- the library is closed exactly if its journal is
+  -- if a journal that was open refuses a call, it is then closed exactly if the fault is `DiskFault`
   pub closed_is : (fault : JournalFault) (is_fault : Bool) (old new : journals.View D) → is_fault ≡ sameb the_type fault journal.DiskFault → old.closed ≡ false
       → (fault ≢ journal.DiskFault → new ≡ old) → (fault ≡ journal.DiskFault → new.closed ≡ true) → is_fault ≡ new.closed
   closed_is journal.DiskFault is_fault old new e was untouched closes = e ∙ sym (closes refl)
@@ -99,7 +99,7 @@ module _ {D : Type 0} where
   compact_leaves_err journal.NotALibrary old new units closed is_fault untouched bodies area e was = untouched_is old new units units closed is_fault refl (untouched (λ p. cc p)) e was
   compact_leaves_err journal.OutOfMemory old new units closed is_fault untouched bodies area e was = untouched_is old new units units closed is_fault refl (untouched (λ p. cc p)) e was
 
-  -- a refusal of the journal's `rewrite` is a refusal of `compact`
+  -- a right refusal of the journal's `rewrite` is a right refusal of `compact`
   pub compact_refused : (fault : JournalFault) (j : journals.View D) (units : Units) (closed : Bool) (bodies : List (List ℕ)) (before behind : ℕ) → bodies ≡ compacted units → closed ≡ j.closed
       → CommitAnswers {T = Unit {0}} j.closed j.area bodies before behind (Err fault) → CompactAnswers {T = Unit {0}} (seen_as j units closed) before behind (Err (fault_of fault))
   compact_refused journal.Full j units closed bodies before behind is same answers = (same ∙ answers.0, subst (λ (l : List (List ℕ)). j.area < room_of l) is answers.1, answers.2)
@@ -109,7 +109,7 @@ module _ {D : Type 0} where
   compact_refused journal.Damaged j units closed bodies before behind is same answers = absurd answers
   compact_refused journal.NotALibrary j units closed bodies before behind is same answers = absurd answers
 
-  -- a refusal of the journal's `append`, or of the log if it does not take a record, is a refusal of the change
+  -- a right refusal of the journal's `append`, or of the log's `takes`, is a right refusal of the change
   pub change_refused : (fault : JournalFault) (j : journals.View D) (units : Units) (closed : Bool) (command : LibraryCommand) (before behind : ℕ) → closed ≡ j.closed → IsOk (apply units command)
       → AppendAnswers {T = Unit {0}} j.closed j.area j.bodies (body_of command) before behind (Err fault) → ChangeAnswers {T = Unit {0}} (seen_as j units closed) command before behind (Err (fault_of fault))
   change_refused journal.Full j units closed command before behind same ok answers = ((same ∙ answers.0, ok), answers.1, answers.2)
@@ -121,7 +121,7 @@ module _ {D : Type 0} where
 
   -- ---- what a `compact` would mend
 
-  -- 34 for a command that the map accepts: the record does not fit
+  -- if a command that the map accepts is refused with 34, its record does not fit
   pub is_full : (fault : JournalFault) (full : Bool) (j : journals.View D) (units : Units) (closed : Bool) (command : LibraryCommand) → full ≡ sameb the_type fault journal.Full → full ≡ true → closed ≡ j.closed → IsOk (apply units command)
       → AppendAnswers {T = Unit {0}} j.closed j.area j.bodies (body_of command) 0 0 (Err fault) → IsAsked (seen_as j units closed) command × (j.area < room_with (seen_as j units closed) command)
   is_full journal.Full full j units closed command e is same ok answers = ((same ∙ answers.0, ok), answers.1)
@@ -131,7 +131,7 @@ module _ {D : Type 0} where
   is_full journal.Damaged full j units closed command e is same ok answers = absurd answers
   is_full journal.NotALibrary full j units closed command e is same ok answers = absurd answers
 
-  -- any other answer means that the record fits, or that the journal is closed
+  -- if the refusal is not 34, a `compact` would not mend it, since the record fits or the journal is closed
   pub not_full : (fault : JournalFault) (full : Bool) (j : journals.View D) (units : Units) (closed : Bool) (command : LibraryCommand) → full ≡ sameb the_type fault journal.Full → full ≡ false → closed ≡ j.closed
       → AppendAnswers {T = Unit {0}} j.closed j.area j.bodies (body_of command) 0 0 (Err fault) → IsMended (seen_as j units closed) command → ⊥
   not_full journal.Full full j units closed command e is same answers mended = let no : true ≡ false = sym e ∙ is in cc
@@ -141,7 +141,7 @@ module _ {D : Type 0} where
   not_full journal.Damaged full j units closed command e is same answers mended = absurd answers
   not_full journal.NotALibrary full j units closed command e is same answers mended = absurd answers
 
-  -- the refused change leaves everything as it was, since no device failed
+  -- if a change is refused although no device call failed, everything is as it was
   pub change_leaves : (fault : JournalFault) (closed : Bool) (area : ℕ) (bodies : List (List ℕ)) (body : List ℕ) (old : View D) (command : LibraryCommand)
       → AppendAnswers {T = Unit {0}} closed area bodies body 0 0 (Err fault) → ChangeLeaves {T = Unit {0}} command old old (Err (fault_of fault))
   change_leaves journal.Full closed area bodies body old command answers = refl

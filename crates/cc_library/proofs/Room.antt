@@ -1,6 +1,6 @@
--- A compaction never takes more room. The proof goes by entries: a command puts in one entry or takes some out, so the records of
--- the entries never take more than those of the commands that led to them. The Add and the Replace of a unit have the same
--- length.
+-- Records never take more room after a compaction. The proof goes by entries: a command sets one entry or removes some, so the
+-- records of the entries never take more bytes than those of the commands that led to them. The Add and the Replace of a unit
+-- have the same length.
 use Rattle.std.proofs.Common.{◌≡◌, ℕ, ◌+◌, ◌≤◌, Bool, true, false, cond, not, Option, None, Some, List, [], ◌∷◌, length, refl, sym, ap, subst, ◌∙◌, arith, length-append}
 use Rattle.std.specs.Prelude.{T, Ok, Err}
 use Rattle.std.specs.declared.cmp.Ordering.{Ordering}
@@ -30,18 +30,18 @@ R = slice_cmp nat_cmp
 abbrev pub Entry : Type 0
 Entry = List ℕ × StoredUnit
 
--- the bytes of the records of these entries
+-- how many bytes the records of these entries take
 abbrev pub size : List Entry → ℕ
 size es = length (records (bodies_of (adds es)))
 
--- the bytes of the record of one entry
+-- how many bytes the record of one entry takes
 abbrev pub one : List ℕ → StoredUnit → ℕ
 one name unit = length (record_bytes (body_of (Add name unit)))
 
 pub size-more : (name : List ℕ) (unit : StoredUnit) (es : List Entry) → size ((name, unit) ∷ es) ≡ one name unit + size es
 size-more name unit es = length-append (record_bytes (body_of (Add name unit))) (records (bodies_of (adds es)))
 
--- the size of the entries after one is put in its place
+-- setting one entry adds at most the size of its record
 pub put_size : (name : List ℕ) (unit : StoredUnit) (es : List Entry) → size (put R name unit es) ≤ one name unit + size es
 put_size name unit [] = omega (arith, size-more name unit [])
 put_size name unit (e ∷ es) = at (put_size name unit es) (R name e.0) refl
@@ -53,7 +53,7 @@ put_size name unit (e ∷ es) = at (put_size name unit es) (R name e.0) refl
         omega (arith, size-more e.0 unit es, size-more e.0 e.1 es, ap (λ (n : List ℕ). one n unit) same)
     at rest Greater is = omega (arith, size-more e.0 e.1 (put R name unit es), size-more e.0 e.1 es, rest)
 
--- the size of the entries after some are taken out
+-- removing entries does not increase the size
 pub where_size : (p : List ℕ → Bool) (es : List Entry) → size (filter (λ (e : Entry). p e.0) es) ≤ size es
 where_size p [] = omega arith
 where_size p (e ∷ es) = at (where_size p es) (p e.0)
@@ -66,7 +66,7 @@ turned : {A : Type 0} (b : Bool) (x y : A) → cond (not b) x y ≡ cond b y x
 turned true x y = refl
 turned false x y = refl
 
--- a map without a name has the other entries
+-- if a name is removed from a map, the other entries stay, in the same order
 pub entries-remove : (units : Units) (name : List ℕ) → (p : List ℕ → Bool) × (map.entries (map.remove units name) ≡ filter (λ (e : Entry). p e.0) (map.entries units))
 entries-remove units name = (p, ap map.entries same ∙ map.entries-from_sorted R others sorted)
   where

@@ -1,4 +1,5 @@
--- Runs of edits: one more edit at the end, the map that a run leads to, and what opening a disk again shows after a failure.
+-- Runs of edits: one more edit at the end, the map that a run leads to, and what opening the disk again shows after a
+-- failure.
 use Rattle.std.proofs.Common.{◌≡◌, ◌≢◌, ◌⊎◌, inl, inr, ℕ, ◌≤◌, Bool, false, IsTrue, List, [], ◌∷◌, ◌++◌, refl, sym, ap, subst, ◌∙◌, arith, append_assoc}
 use Rattle.std.specs.Prelude.{Result, Ok, Err}
 use Rattle.cc_disk.specs.Images.{LeavesOnly}
@@ -36,7 +37,7 @@ recovers_some : (image : List ℕ) (area : ℕ) (bodies : List (List ℕ)) (old 
 recovers_some image area bodies old made new (inl p) = (old, p.1.recovers)
 recovers_some image area bodies old made new (inr p) = (new, p.1.recovers)
 
--- opening an honest disk is refused because the device failed or memory ran out
+-- if opening an honest disk is refused after an edit, the device failed or memory ran out
 pub cause_of : (honest : Bool) (image : List ℕ) (area : ℕ) (bodies : List (List ℕ)) (old : Units) (made : List (List ℕ)) (new : Units) (before behind : ℕ) (fault : LibraryFault)
     → OpenFaults honest image before behind fault → IsTrue honest → IsOldOrNew area bodies old made new image → (fault ≡ DiskFault) ⊎ (fault ≡ OutOfMemory)
 cause_of honest image area bodies old made new before behind DiskFault refused h p = inl refl
@@ -50,7 +51,7 @@ cause_of honest image area bodies old made new before behind Absent refused h p 
 cause_of honest image area bodies old made new before behind Full refused h p = absurd refused
 cause_of honest image area bodies old made new before behind Closed refused h p = absurd refused
 
--- what holds at each moment holds now
+-- if a crash at any moment of a call leaves only `P`, each image after the call has `P`
 pub of_now : {D : Type 0} (may_leave : D → List ℕ → Type 0) (moment : D → ℕ) (left_since : D → ℕ → List ℕ → Type 0) (old new : D) (P : List ℕ → Type 0) → LeavesOnly moment left_since old new P
     → ((t : ℕ) (image : List ℕ) → t ≤ moment new → may_leave new image → left_since new t image) → (image : List ℕ) → may_leave new image → P image
 of_now may_leave moment left_since old new P run counts image now = run.each image (counts (moment old) image run.later now)
@@ -71,7 +72,7 @@ module _ {D : Type 0} where
   done_open old left (Change command) done leaves = ap (λ (v : View D). v.closed) leaves
   done_open old left Compact done leaves = ap (λ (v : View D). v.closed) leaves
 
-  -- any other refusal leaves everything as it was
+  -- if an edit is refused without 35, it leaves everything as it was
   pub same_left : (old left : View D) (edit : Edit) (fault : LibraryFault) → fault ≢ DiskFault → EditLeaves {T = Unit {0}} edit old left (Err fault) → left ≡ old
   same_left old left (Change command) DiskFault other leaves = absurd (other refl)
   same_left old left (Change command) Exists other leaves = leaves
@@ -100,7 +101,7 @@ module _ {D : Type 0} (honest : Bool) (failures : D → ℕ) where
   one_edit_more old mid new (e ∷ edits) [] edit number run one = absurd run
   one_edit_more old mid new (e ∷ edits) (n ∷ numbers) edit number run one = (run.0, run.1, one_edit_more run.0 mid new edits numbers edit number run.2 one)
 
-  -- after any other fault the library is as the edit left it
+  -- if an edit is refused without 35, the run goes on with the library as the edit left it
   pub goes_on_same : (old left : View D) (edit : Edit) (fault : LibraryFault) → fault ≢ DiskFault → GoesOn {T = Unit {0}} honest failures old edit (Err fault) left left
   goes_on_same old left edit DiskFault other = absurd (other refl)
   goes_on_same old left edit Exists other = refl
@@ -121,7 +122,7 @@ module _ {D : Type 0} (honest : Bool) (failures : D → ℕ) where
   left_on old mid left edit Damaged other on = on
   left_on old mid left edit NotALibrary other on = on
 
-  -- a fault other than 35 leaves the library as it was
+  -- if an edit is refused without 35, the run goes on with the library as it was before the edit
   no_change : (old mid left : View D) (edit : Edit) (fault : LibraryFault) → fault ≢ DiskFault → EditLeaves {T = Unit {0}} edit old left (Err fault) → GoesOn {T = Unit {0}} honest failures old edit (Err fault) left mid → mid ≡ old
   no_change old mid left edit fault other leaves on = left_on old mid left edit fault other on ∙ same_left old left edit fault other leaves
 
@@ -157,7 +158,7 @@ module _ {D : Type 0} (honest : Bool) (failures : D → ℕ) where
   pub stays_open : (old mid : View D) (edit : Edit) (number : ℕ) → IsEdited honest failures old edit number mid → old.closed ≡ false → mid.closed ≡ false
   stays_open old mid edit number one was = stays old mid one.left one.answer edit one.leaves one.goes_on was
 
-  -- the map is the result of the changes that were made, in order
+  -- on an honest disk, the map after a run is the old map after the changes that were made
   pub folds : (old new : View D) (edits : List Edit) (numbers : List ℕ) → AreEdited honest failures old edits numbers new → IsTrue honest
       → (done : List LibraryCommand) × AreDone edits numbers done × (new.units ≡ after_all old.units done)
   folds old new [] [] run h = ([], refl, ap (λ (v : View D). v.units) run)
@@ -185,7 +186,7 @@ pub mid_edit : (area : ℕ) (bodies : List (List ℕ)) (units : Units) (made : L
 mid_edit area bodies units made edit number image was (inl p) = inl p.1
 mid_edit area bodies units made edit number image was (inr p) = inr (was, p.1)
 
--- one more edit that was done
+-- if one more change was made, with number 0 or 35, it is added to the changes made
 done_push : (edits : List Edit) (numbers : List ℕ) (done : List LibraryCommand) (command : LibraryCommand) (number : ℕ) → AreDone edits numbers done → (number ≡ 0) ⊎ (number ≡ 35)
     → AreDone (edits ++ Change command ∷ []) (numbers ++ number ∷ []) (done ++ command ∷ [])
 done_push [] [] done command number are was = inl ([], was, ap (λ (l : List LibraryCommand). l ++ command ∷ []) are, refl)
@@ -211,11 +212,11 @@ after_push : (units : Units) (done : List LibraryCommand) (command : LibraryComm
 after_push units [] command = refl
 after_push units (first ∷ done) command = after_push (after units first) done command
 
--- before the first edit
+-- if no edit has been carried out and an image recovers to the map, it recovers among the edits
 pub among_none : (units : Units) (edits : List Edit) (image : List ℕ) → RecoversAlone image units → RecoversAmong units edits [] image
 among_none units edits image recovers = record { prefix = []; behind = edits; earlier = []; later = []; done = []; edits_are = refl; numbers_are = refl; are_done = refl; recovers = recovers }
 
--- the same holds among more edits
+-- an image that recovers among some edits also recovers among these and more
 pub among_more : (units : Units) (edits more : List Edit) (numbers others : List ℕ) (image : List ℕ) → RecoversAmong units edits numbers image → RecoversAmong units (edits ++ more) (numbers ++ others) image
 among_more units edits more numbers others image p = record {
   prefix = p.prefix;
@@ -229,7 +230,7 @@ among_more units edits more numbers others image p = record {
   recovers = p.recovers;
 }
 
--- the same holds among all edits, if these are the first
+-- an image that recovers among the first edits of a run also recovers among all its edits
 pub among_all : (units : Units) (edits more all : List Edit) (numbers shown : List ℕ) (image : List ℕ) → edits ++ more ≡ all → numbers ≡ shown → RecoversAmong units edits numbers image → RecoversAmong units all shown image
 among_all units edits more all numbers shown image edits_are same p = record {
   prefix = p.prefix;
@@ -243,7 +244,7 @@ among_all units edits more all numbers shown image edits_are same p = record {
   recovers = p.recovers;
 }
 
--- in the middle of one more edit
+-- an image that a crash leaves in the middle of the next edit recovers among the edits up to that one
 pub among_next : (units now : Units) (edits : List Edit) (numbers : List ℕ) (edit : Edit) (number : ℕ) (image : List ℕ) → (done : List LibraryCommand) × AreDone edits numbers done × (now ≡ after_all units done) → IsMidEdit now edit number image
     → RecoversAmong units (edits ++ edit ∷ []) (numbers ++ number ∷ []) image
 among_next units now edits numbers edit number image (done, are, is) (inl recovers) = record {

@@ -13,7 +13,7 @@ words_long : (words : List ℕ) → length (flat_map (to_le_bytes w32) words) �
 words_long [] = refl
 words_long (word ∷ words) = omega (arith, four word, words_long words, length-append (to_le_bytes w32 word) (flat_map (to_le_bytes w32) words))
 
--- a certificate without bytes takes four bytes
+-- a certificate takes its bytes and four more
 pub certificate_long : (certificate : List ℕ) → length (certificate_part (Some certificate)) ≡ 4 + length certificate
 certificate_long certificate = omega (arith, four (length certificate), length-append (to_le_bytes w32 (length certificate)) certificate)
 
@@ -38,7 +38,7 @@ unit_long unit =
       length-append (to_le_bytes w32 (length globals)) (flat_map (to_le_bytes w32) globals),
     )
 
--- the same, with the parts given by the unit's fields
+-- the fields of a unit take the bytes of each part and four more for each
 pub unit_parts : (unit : StoredUnit) → length (unit_fields unit) ≡ (4 + length unit.source) + (4 + 4 * length unit.image.code) + (4 + 4 * length unit.image.globals) + length (certificate_part unit.certificate)
 unit_parts unit = omega (arith, unit_long unit)
 
@@ -51,7 +51,7 @@ pub short_certificate : (certificate : Option (List ℕ)) → length (certificat
 short_certificate None few = tt
 short_certificate (Some certificate) few = omega (arith, few, certificate_long certificate)
 
--- if the length of a body fits, so does the length of its certificate
+-- if the length of a unit's fields fits in four bytes, so does that of its certificate
 pub short_part : (unit : Option StoredUnit) → length (unit_part unit) < 2 ^ 32 → HasShort unit
 short_part None few = tt
 short_part (Some unit) few = short_certificate unit.certificate (omega (arith, few, unit_long unit))

@@ -1,5 +1,5 @@
--- The map that records represent, with one more record at the start or at the end; and that records represent at most one map.
--- From this follows what images with these records recover to.
+-- The map that records represent, with one more record at the start or at the end. Records represent at most one map, and this
+-- decides what images with these records recover to.
 use Rattle.std.proofs.Common.{◌≡◌, ◌⊎◌, inl, inr, ⊎_elim, ℕ, List, [], ◌∷◌, ◌++◌, refl, sym, ap, subst, ◌∙◌, arith}
 use Rattle.std.specs.Prelude.{IsOk, Err}
 use Rattle.std.specs.FinMap.{empty}
@@ -49,7 +49,7 @@ no_step : (from : Units) (body : List ℕ) (bodies : List (List ℕ)) (commands 
 no_step from body bodies [] none spelled accepted = spelled
 no_step from body bodies (command ∷ commands) none spelled accepted = none command spelled.0 accepted.0
 
--- if the first record leads nowhere, all of them lead nowhere
+-- if the first record leads from a map to no map, all the records together lead to no map
 pub leads_nowhere : (from : Units) (body : List ℕ) (bodies : List (List ℕ)) (to : Units) → ((command : LibraryCommand) → Spells body command → IsOk (apply from command) → ⊥) → LeadTo from (body ∷ bodies) to → ⊥
 leads_nowhere from body bodies to none l = no_step from body bodies l.commands none l.spelled l.accepted
 
@@ -92,7 +92,7 @@ pushed from (b ∷ bs) [] body command spelled accepted s ok = absurd spelled
 pushed from (b ∷ bs) (x ∷ xs) body command spelled accepted s ok =
     step_before from (after from x) b (bs ++ body ∷ []) (after (after_all (after from x) xs) command) (x, spelled.0, accepted.0, refl) (pushed (after from x) bs xs body command spelled.1 accepted.1 s ok)
 
--- one more record at the end
+-- if one more record is added whose command the map accepts, the records represent the map after this command
 pub one_more : (bodies : List (List ℕ)) (units : Units) (body : List ℕ) (command : LibraryCommand) → StandFor bodies units → Spells body command → IsOk (apply units command) → StandFor (bodies ++ body ∷ []) (after units command)
 one_more bodies units body command l s ok =
     subst (λ (m : Units). LeadTo empty (bodies ++ body ∷ []) (after m command)) (sym l.map_is)
@@ -117,7 +117,7 @@ pub one_of : (image : List ℕ) (area : ℕ) (bodies : List (List ℕ)) (body : 
 one_of image area bodies body old new before behind (inl h) = inl (h, holds_recovers image area bodies old h before)
 one_of image area bodies body old new before behind (inr h) = inr (h, holds_recovers image area (bodies ++ body ∷ []) new h behind)
 
--- the same, only for the maps
+-- an image with the old records or the new ones recovers to the old map or the new one
 pub either : (image : List ℕ) (area : ℕ) (bodies : List (List ℕ)) (old : Units) (made : List (List ℕ)) (new : Units) → IsOldOrNew area bodies old made new image → RecoversOneOf old new image
 either image area bodies old made new (inl p) = inl p.1
 either image area bodies old made new (inr p) = inr p.1
@@ -136,18 +136,18 @@ module _ {D : Type 0} (moment : D → ℕ) (left_since : D → ℕ → List ℕ 
     before = λ t image earlier left. weaker_at {P = P} {Q = Q} old new f t image (l.before t image earlier left);
   }
 
-  -- if no call was made, what held at the moment still holds
+  -- if `Q` is true of each image now, and no call is made, a crash leaves only `Q`
   pub no_call : (Q : List ℕ → Type 0) (disk : D) → ((image : List ℕ) → left_since disk (moment disk) image → Q image) → LeavesOnly moment left_since disk disk Q
   no_call Q disk now = record { later = omega arith; each = now; before = λ t image earlier left. inl left }
 
-  -- between two calls: what holds for a library whose images all have exactly its records
+  -- if each image has exactly the records, and no call is made, a crash leaves the old records and map
   pub quiet : (may_leave : D → List ℕ → Type 0) (disk : D) (area : ℕ) (bodies : List (List ℕ)) (units : Units) (made : List (List ℕ)) (new : Units)
       → ((image : List ℕ) → may_leave disk image → HoldsAlone image area bodies) → ((image : List ℕ) → left_since disk (moment disk) image → may_leave disk image) → StandFor bodies units
       → LeavesOnly moment left_since disk disk (IsOldOrNew area bodies units made new)
   quiet may_leave disk area bodies units made new kept only_now stand =
       no_call (IsOldOrNew area bodies units made new) disk (λ image left. let h = kept image (only_now image left) in inl (h, holds_recovers image area bodies units h stand))
 
-  -- what holds during an `append`
+  -- at each moment of an `append` an image has the old records and map, or the new ones
   pub appended : (old new : D) (area : ℕ) (bodies : List (List ℕ)) (body : List ℕ) (units : Units) (command : LibraryCommand) → StandFor bodies units → body ≡ body_of command → IsCommand command → IsOk (apply units command)
       → LeavesOnly moment left_since old new (HoldsOldOrNew area bodies body) → LeavesOnly moment left_since old new (IsOldOrNew area bodies units (bodies ++ body_of command ∷ []) (after units command))
   appended old new area bodies body units command stand is command_is ok run =
@@ -156,7 +156,8 @@ module _ {D : Type 0} (moment : D → ℕ) (left_since : D → ℕ → List ℕ 
       (weaker (HoldsOldOrNew area bodies body) (IsOldOrNew area bodies units (bodies ++ body ∷ []) (after units command)) old new
       (λ image holds. one_of image area bodies body units (after units command) stand (one_more bodies units body command stand spelled ok) holds) run)
 
-  -- what holds during a `rewrite` with records that represent the same map
+  -- at each moment of a `rewrite` to records of the same map, an image has the old records or the new ones, and recovers to
+  -- this map
   pub rewritten : (old new : D) (area : ℕ) (bodies more : List (List ℕ)) (units : Units) → StandFor bodies units → StandFor more units → LeavesOnly moment left_since old new (HoldsOneOf area bodies more)
       → LeavesOnly moment left_since old new (IsOldOrNew area bodies units more units)
   rewritten old new area bodies more units before behind run =
@@ -166,12 +167,12 @@ module _ {D : Type 0} (moment : D → ℕ) (left_since : D → ℕ → List ℕ 
       by image (inl h) = inl (h, holds_recovers image area bodies units h before)
       by image (inr h) = inr (h, holds_recovers image area more units h behind)
 
-  -- the same, only for the maps
+  -- if a crash leaves the old records or the new ones, it leaves the old map or the new one
   pub maps_alone : (old new : D) (area : ℕ) (bodies : List (List ℕ)) (units : Units) (more : List (List ℕ)) (made : Units) → LeavesOnly moment left_since old new (IsOldOrNew area bodies units more made)
       → LeavesOnly moment left_since old new (RecoversOneOf units made)
   maps_alone old new area bodies units more made run = weaker (IsOldOrNew area bodies units more made) (RecoversOneOf units made) old new (λ image p. either image area bodies units more made p) run
 
-  -- the same for a single map
+  -- if a crash leaves the old records or the new ones, and both represent one map, it leaves this map
   pub map_stays : (old new : D) (area : ℕ) (bodies : List (List ℕ)) (units : Units) (more : List (List ℕ)) → LeavesOnly moment left_since old new (IsOldOrNew area bodies units more units)
       → LeavesOnly moment left_since old new (λ image. RecoversAlone image units)
   map_stays old new area bodies units more run = weaker (IsOldOrNew area bodies units more units) (λ image. RecoversAlone image units) old new (λ image p. the_one image p) run
@@ -180,7 +181,7 @@ module _ {D : Type 0} (moment : D → ℕ) (left_since : D → ℕ → List ℕ 
       the_one image (inl p) = p.1
       the_one image (inr p) = p.1
 
-  -- what holds during one run of calls, and then another
+  -- if some calls leave only `P` and the next ones only `Q`, and `R` follows from both, all the calls together leave only `R`
   pub joined : (old mid new : D) (P Q R : List ℕ → Type 0) → LeavesOnly moment left_since old mid P → LeavesOnly moment left_since mid new Q
       → ((image : List ℕ) → P image → R image) → ((image : List ℕ) → Q image → R image) → LeavesOnly moment left_since old new R
   joined old mid new P Q R first second f g = record {
@@ -189,7 +190,7 @@ module _ {D : Type 0} (moment : D → ℕ) (left_since : D → ℕ → List ℕ 
     before = λ t image le left. ⊎_elim (λ earlier. weaker_at {P = P} {Q = R} old mid f t image (first.before t image le earlier)) (λ q. inr (g image q)) (second.before t image (omega (arith, le, first.later)) left);
   }
 
-  -- what holds if only reads follow
+  -- if some calls leave only `P`, they still do so if only reads follow
   pub read_on : (seen : D → List ℕ) (may_leave : D → List ℕ → Type 0) (old mid new : D) (P : List ℕ → Type 0) → LeavesOnly moment left_since old mid P → OnlyReads seen may_leave moment left_since mid new → LeavesOnly moment left_since old new P
   read_on seen may_leave old mid new P first reads = record {
     later = omega (arith, first.later, reads.later);

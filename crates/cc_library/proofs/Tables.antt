@@ -1,5 +1,5 @@
--- A `BTreeMap` seen as a finite map, with its look-up, its insertion and its removal. Two finite maps with the same answers are
--- equal, and the `BTreeMap`'s clauses say what it answers.
+-- A `BTreeMap` seen as a finite map, with its look-up, its insertion and its removal. Finite maps are equal if their look-ups
+-- agree, and the clauses of `BTreeMap` say what its look-ups answer.
 use Rattle.std.proofs.Common.{◌≡◌, List, [], ◌∷◌, refl, sym, ap, ◌∙◌, cond, Option, Some, None, false, map}
 use Rattle.std.specs.Prelude.{is_some}
 use Rattle.std.specs.declared.cmp.Ordering.{Ordering}
@@ -36,7 +36,7 @@ module _ {K X : Type 0} {R : K → K → Ordering} (o : IsTotalOrder R) where
   pub no_entries : entries (empty {K = K} {X = X} {R = R}) ≡ []
   no_entries = nil_from_length (entries empty) (sym (len-entries empty) ∙ len-empty R X)
 
-  -- the map of a list with ascending keys has this list as its entries
+  -- the entries of a map made from a list with ascending keys are that list
   pub entries-map : (es : List (K × X)) → IsStrictlySortedBy R (keys_of es) → entries (from_entries {R = R} es) ≡ es
   unfolding IsStrictlySortedBy
   entries-map [] rises = no_entries

@@ -1,5 +1,5 @@
--- The whole promise of a change and of a compaction, from its parts: what holds at each moment holds now. Also the whole promise
--- for those that end before a device call: then only the answer remains to be shown.
+-- The promises of a change and of a compaction, put together from their parts: what is true of each moment is true now. If the
+-- call ended before a device call, only its answer remains to be shown.
 use Rattle.std.proofs.Common.{◌≡◌, ◌≢◌, ◌≤◌, ℕ, List, [], ◌∷◌, ◌++◌, Bool, false, IsTrue, refl, sym, ap, subst}
 use Rattle.std.specs.Prelude.{Result, Err, IsOk, OnOk}
 use Rattle.cc_disk.specs.Images.{LeavesOnly}
@@ -65,7 +65,7 @@ module _ {Disk : Type 0} (D : Ghosts Disk) where
       answers (still command old fault other).0 refl (λ _. (still command old fault other).1) tt
       (quiet_change D.honest D.moment D.left_since D.may_leave j units closed old command is stand same kept only_now old.disk (sym (ap (λ (v : View Disk). v.disk) is)))
 
-  -- a change whose record the log does not take
+  -- if the log does not take the record of a change, the promise of a refused change is kept
   pub refused_changed : (j : journals.View Disk) (units : Units) (closed : Bool) (old : View Disk) (command : LibraryCommand) (fault : JournalFault)
       → seen_as j units closed ≡ old → StandFor j.bodies units → closed ≡ j.closed
       → (IsTrue D.honest → j.closed ≡ false → (image : List ℕ) → D.may_leave j.disk image → HoldsAlone image j.area j.bodies)

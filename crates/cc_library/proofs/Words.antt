@@ -1,4 +1,5 @@
--- Reading words one after the other, as a loop does: what was read comes before what is still to be read.
+-- Reading words one after the other, as a loop does: the words read so far come before those still to be
+-- read.
 use Rattle.std.proofs.Common.{◌≡◌, ℕ, zero, suc, ◌-◌, ◌+◌, ◌*◌, ◌≤◌, ◌<◌, Bool, true, false, cond, ltb, List, [], ◌∷◌, ◌++◌, length, get_or, take, drop, slice_set, Option, Some, None, refl, sym, ap, ◌∙◌, append_assoc, arith}
 use Rattle.std.specs.Int.{w32, from_le_bytes}
 use Rattle.std.proofs.lemmas.Bool.{ltb-true, ltb-false, le-ltb}
@@ -10,7 +11,7 @@ use Rattle.cc_library.specs.internal.Reading.{◌>>=◌, taken, number_in, words
 use Rattle.cc_library.specs.Answers.{Gives}
 use Rattle.std.specs.Prelude.{Err}
 
--- what was read, put before what is still to be read
+-- the words read so far, put before those still to be read
 abbrev pub with_prefix : List ℕ → Option (List ℕ × List ℕ) → Option (List ℕ × List ℕ)
 with_prefix prefix read = read >>= λ x. Some (prefix ++ x.0, x.1)
 
@@ -55,7 +56,8 @@ pub too_few : (n : ℕ) (bytes : List ℕ) → length bytes < 4 * n → words_in
 too_few zero bytes few = absurd (omega (arith, few))
 too_few (suc n) bytes few = none_in_few n bytes (ltb (length bytes) 4) refl few (λ fewer. too_few n (drop 4 bytes) fewer)
 
--- one more word is set in its place
+-- if word `i` is set to the next four bytes, the words read and those still to be read are together the same
+-- as before
 pub sets_on : (words bytes : List ℕ) (n i word : ℕ) (total : Option (List ℕ × List ℕ)) → i < n → i < length words → 4 * n ≤ length bytes
     → word ≡ from_le_bytes w32 (get_or bytes (4 * i) 0 ∷ get_or bytes (4 * i + 1) 0 ∷ get_or bytes (4 * i + 2) 0 ∷ get_or bytes (4 * i + 3) 0 ∷ [])
     → with_prefix (take i words) (words_in (n - i) (drop (4 * i) bytes)) ≡ total → with_prefix (take (i + 1) (slice_set words i word)) (words_in (n - (i + 1)) (drop (4 * (i + 1)) bytes)) ≡ total
@@ -70,7 +72,7 @@ sets_on words bytes n i word total lt within long is so_far =
     ap (λ (ws : List ℕ). with_prefix ws (words_in (n - (i + 1)) (drop (4 * (i + 1)) bytes))) (take_more_set words i word within)
     ∙ goes_on (take i words) n i prefix word (drop (4 * (i + 1)) bytes) total lt found so_far
 
--- if there are too few bytes for the words, the words are refused
+-- if taking `4 * n` bytes fails, reading `n` words fails
 refused : (n : ℕ) (bytes : List ℕ) (short : Bool) → short ≡ ltb (length bytes) (4 * n) → cond {A = Option (List ℕ × List ℕ)} short None (Some (take (4 * n) bytes, drop (4 * n) bytes)) ≡ None → words_in n bytes ≡ None
 refused n bytes true e none = too_few n bytes (ltb-true _ _ (sym e))
 refused n bytes false e none = let found : List ℕ × List ℕ = (take (4 * n) bytes, drop (4 * n) bytes) in absurd (none-some found (sym none))

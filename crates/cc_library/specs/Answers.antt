@@ -1,5 +1,5 @@
--- Which answer a call of a library gives, when, and what it leaves. `before` and `after` are the numbers of failures that the
--- disk has counted before the call and after it.
+-- Which answer a call of a library gives and when, and what the call leaves. `before` and `after` are the numbers of failures that the disk
+-- has counted before the call and after it.
 use Rattle.std.specs.Prelude.{◌≡◌, length, ℕ, ◌+◌, ◌<◌, ◌≤◌, Bool, true, false, IsTrue, IsOk, List, ◌∷◌, ◌++◌, [], Option, Some, None, Result, Ok, Err, OnOk}
 use Rattle.cc_disk.specs.Images.{LeavesAlone, LeavesOnly}
 use Rattle.cc_disk.specs.declared.disk.Disk.{Ghosts}
@@ -15,14 +15,13 @@ use Rattle.cc_library.specs.Body.{body_of}
 use Rattle.cc_library.specs.Compact.{compacted, room_compacted}
 use Rattle.cc_library.specs.Recovered.{Recovers, RecoversAlone, RecoversOneOf, StandFor, View}
 
--- what a function returned, seen through `view`, is what the definition reads; if memory ran out, nothing is claimed
+-- the function returned what the definition finds, seen through `view`; if memory ran out, nothing is claimed
 abbrev pub Gives : {X Y : Type 0} → (X → Y) → Result X ReadFault → Option Y → Type 0
 Gives view (Ok x) found = found ≡ Some (view x)
 Gives view (Err read.NoCommand) found = found ≡ None
 Gives view (Err read.OutOfMemory) found = Unit {0}
 
--- `open`: 35 exactly if the device failed; else, on an honest disk with these bytes, 38 exactly if there is no valid header, and 37 exactly
--- if there is one and nothing is recovered
+-- `open`: 35 exactly if the device failed; else, if honest, 38 exactly if no header is valid, 37 exactly if one is but nothing is recovered
 abbrev pub OpenFaults : (honest : Bool) (seen : List ℕ) (before after : ℕ) → LibraryFault → Type 0
 OpenFaults honest seen before after DiskFault = after ≡ before + 1
 OpenFaults honest seen before after NotALibrary = (after ≡ before) × (IsTrue honest → (area : ℕ) → HasHeader seen area → ⊥)
@@ -34,7 +33,7 @@ OpenFaults honest seen before after Absent = ⊥
 OpenFaults honest seen before after Full = ⊥
 OpenFaults honest seen before after Closed = ⊥
 
--- replaying records: 37 exactly if they represent no map
+-- a replay of records is refused with 37 exactly if they represent no map
 abbrev pub ReplayFaults : List (List ℕ) → LibraryFault → Type 0
 ReplayFaults bodies Damaged = (units : Units) → StandFor bodies units → ⊥
 ReplayFaults bodies OutOfMemory = Unit {0}
@@ -50,12 +49,12 @@ module _ {D : Type 0} where
   abbrev pub IsAsked : View D → LibraryCommand → Type 0
   IsAsked old command = (old.closed ≡ false) × IsOk (apply old.units command)
 
-  -- the number of bytes that the records take, together with the command's record
+  -- the number of bytes that the records would take with the command's record added
   abbrev pub room_with : View D → LibraryCommand → ℕ
   room_with old command = room_of (old.bodies ++ body_of command ∷ [])
 
-  -- when a change has which answer: 36 exactly if the library was closed, then 31 or 32 exactly if the map refuses it, then 34
-  -- exactly if the record does not fit, then 35 exactly if the device failed
+  -- which answer a change has, and when: 36 exactly if the library was closed, then 31 or 32 exactly if the map refuses the change, then 34
+  -- exactly if its record does not fit, then 35 exactly if the device failed
   abbrev pub ChangeAnswers : {T : Type 0} → View D → LibraryCommand → (before after : ℕ) → Result T LibraryFault → Type 0
   ChangeAnswers old command before after (Ok done) = IsAsked old command × (room_with old command ≤ old.area) × (after ≡ before)
   ChangeAnswers old command before after (Err Closed) = (old.closed ≡ true) × (after ≡ before)
@@ -67,8 +66,7 @@ module _ {D : Type 0} where
   ChangeAnswers old command before after (Err Damaged) = ⊥
   ChangeAnswers old command before after (Err NotALibrary) = ⊥
 
-  -- what a change leaves, apart from the disk: after Ok the map after the command; after 35 the old map, closed; after any other
-  -- refusal everything is as before, and the disk too
+  -- what a change leaves besides the disk: after Ok the map after the command; after 35 the old map, closed; after other refusals no change
   abbrev pub ChangeLeaves : {T : Type 0} → LibraryCommand → (old new : View D) → Result T LibraryFault → Type 0
   ChangeLeaves command old new (Ok done) = new ≡ record { disk = new.disk; area = old.area; bodies = old.bodies ++ body_of command ∷ []; units = after old.units command; closed = false }
   ChangeLeaves command old new (Err DiskFault) = new ≡ record old { disk = new.disk; closed = true }
@@ -84,8 +82,8 @@ module _ {D : Type 0} where
   abbrev pub commit_of : (area_byte : ℕ) → View D → LibraryCommand → Commit
   commit_of area_byte old command = append_commit (area_begin area_byte old.area + length (records old.bodies)) (body_of command)
 
-  -- what a change does to the bytes of an honest disk: after Ok that commit is made, everything is settled, and the records are
-  -- the library's; after 35 the commit was left in its first write or in its last one
+  -- what a change does to the bytes of an honest disk: after Ok the commit is made, everything is settled, and the records are the
+  -- library's; after 35 the commit broke off in its first or its last write
   abbrev pub ChangesDisk : {T : Type 0} → (seen : D → List ℕ) (may_leave : D → List ℕ → Type 0) → LibraryCommand → (old new : View D) → Result T LibraryFault → Type 0
   ChangesDisk seen may_leave command old new (Ok done) =
       HoldsRecords (seen new.disk) new.area new.bodies
@@ -100,8 +98,7 @@ module _ {D : Type 0} where
   ChangesDisk seen may_leave command old new (Err Damaged) = Unit {0}
   ChangesDisk seen may_leave command old new (Err NotALibrary) = Unit {0}
 
-  -- when `compact` has which answer: 36 exactly if the library was closed, then 34 exactly if the compacted records do not fit, then 35
-  -- exactly if the device failed
+  -- `compact`: 36 exactly if the library was closed, then 34 exactly if the records do not fit, then 35 exactly if the device failed
   abbrev pub CompactAnswers : {T : Type 0} → View D → (before after : ℕ) → Result T LibraryFault → Type 0
   CompactAnswers old before after (Ok done) = (old.closed ≡ false) × (room_of (compacted old.units) ≤ old.area) × (after ≡ before)
   CompactAnswers old before after (Err Closed) = (old.closed ≡ true) × (after ≡ before)
@@ -113,8 +110,8 @@ module _ {D : Type 0} where
   CompactAnswers old before after (Err Damaged) = ⊥
   CompactAnswers old before after (Err NotALibrary) = ⊥
 
-  -- what `compact` leaves, apart from the disk: after Ok the compacted records; after 35 the old ones, closed; after any other
-  -- refusal everything is as before, and the disk too; the map is always the same
+  -- what `compact` leaves, apart from the disk: after Ok the compacted records; after 35 the old ones, closed; after any other refusal
+  -- everything is as before, including the disk; the map is always the same
   abbrev pub CompactLeaves : {T : Type 0} → (old new : View D) → Result T LibraryFault → Type 0
   CompactLeaves old new (Ok done) = new ≡ record old { disk = new.disk; bodies = compacted old.units; closed = false }
   CompactLeaves old new (Err DiskFault) = new ≡ record old { disk = new.disk; closed = true }
@@ -126,7 +123,7 @@ module _ {D : Type 0} where
   CompactLeaves old new (Err Damaged) = new ≡ old
   CompactLeaves old new (Err NotALibrary) = new ≡ old
 
-  -- 34 refuses the change now, but would not after a `compact`: the record does not fit, but fits after the compacted records
+  -- the change is refused with 34 now, but would not be after a `compact`: its record does not fit, but fits after the compacted records
   abbrev pub IsMended : View D → LibraryCommand → Type 0
   IsMended old command = IsAsked old command × (old.area < room_with old command) × (room_compacted old.units command ≤ old.area)
 
@@ -149,34 +146,34 @@ module _ {D : Type 0} where
   CompactsDisk seen may_leave old new (Err Damaged) = Unit {0}
   CompactsDisk seen may_leave old new (Err NotALibrary) = Unit {0}
 
--- What a change promises on this kind of disk, if each image of an honest disk has `Holds`.
+-- What a change promises on this kind of disk, with `Holds` for what a crash of an honest disk may leave.
 pub record IsChangedAs {Disk : Type 0} (D : Ghosts Disk) (command : LibraryCommand) (old new : View Disk) (result : Result (Unit {0}) LibraryFault) (Holds : List ℕ → Type 0) : Type 0 where
   pub answers : ChangeAnswers old command (D.failures old.disk) (D.failures new.disk) result
   pub leaves : ChangeLeaves command old new result
   pub size : D.size new.disk ≡ D.size old.disk
-  -- what becomes of the disk's bytes
+  -- what the call does to the disk's bytes
   pub disk : IsTrue D.honest → ChangesDisk D.seen D.may_leave command old new result
-  -- after Ok every image recovers to the map after it
+  -- after Ok every image recovers to the new map
   pub kept : OnOk result (IsTrue D.honest → (image : List ℕ) → D.may_leave new.disk image → RecoversAlone image new.units)
   -- what a crash at any moment of the call leaves
   pub moments : IsTrue D.honest → old.closed ≡ false → LeavesOnly D.moment D.left_since old.disk new.disk Holds
-  -- so every image has this, whatever the answer, even 35
+  -- so `Holds` is true of every image, whatever the answer, even 35
   pub images : IsTrue D.honest → old.closed ≡ false → (image : List ℕ) → D.may_leave new.disk image → Holds image
 
--- what a change promises: a crash leaves the map before it or the map after it
+-- what a change promises: a crash leaves the map before the change or the map after it
 abbrev pub IsChanged : {Disk : Type 0} (D : Ghosts Disk) → LibraryCommand → (old new : View Disk) → Result (Unit {0}) LibraryFault → Type 0
 IsChanged D command old new result = IsChangedAs D command old new result (RecoversOneOf old.units (after old.units command))
 
--- What a compaction promises, in the same way.
+-- What a compaction promises on this kind of disk, with `Holds` for what a crash of an honest disk may leave.
 pub record IsCompactedAs {Disk : Type 0} (D : Ghosts Disk) (old new : View Disk) (result : Result (Unit {0}) LibraryFault) (Holds : List ℕ → Type 0) : Type 0 where
   pub answers : CompactAnswers old (D.failures old.disk) (D.failures new.disk) result
   pub leaves : CompactLeaves old new result
   pub size : D.size new.disk ≡ D.size old.disk
-  -- what becomes of the disk's bytes
+  -- what the call does to the disk's bytes
   pub disk : IsTrue D.honest → CompactsDisk D.seen D.may_leave old new result
   -- what a crash at any moment of the call leaves
   pub moments : IsTrue D.honest → old.closed ≡ false → LeavesOnly D.moment D.left_since old.disk new.disk Holds
-  -- so every image has this, whatever the answer, even 35
+  -- so `Holds` is true of every image, whatever the answer, even 35
   pub images : IsTrue D.honest → old.closed ≡ false → (image : List ℕ) → D.may_leave new.disk image → Holds image
 
 -- what a compaction promises: a crash leaves the map as it is

@@ -1,5 +1,5 @@
 -- A command as the body of a record, in two versions. Numbers are little-endian. Version 1 has no certificate. In version 2 a unit ends
--- with one. A command is written in the version that its certificate needs; a Withdraw is read in both versions.
+-- with one. A command is written in version 1 if its unit has no certificate, otherwise in version 2; a Withdraw is read in both.
 use Rattle.std.specs.Prelude.{ℕ, ◌≤◌, ◌<◌, ◌≡◌, ◌^◌, ◌⊎◌, List, [], ◌∷◌, ◌++◌, length, Option, Some, None, IsTrue}
 use Rattle.std.specs.List.{flat_map, AllByRecursion}
 use Rattle.std.specs.Int.{w32, to_le_bytes}
@@ -28,7 +28,7 @@ words_field words = to_le_bytes w32 (length words) ++ flat_map (to_le_bytes w32)
 abbrev pub name_field : List ℕ → List ℕ
 name_field name = length name ∷ name
 
--- the certificate, if there is one; a certificate without bytes is still its length
+-- the certificate's length and the certificate, if there is one; a certificate without bytes still has its length
 abbrev pub certificate_part : Option (List ℕ) → List ℕ
 certificate_part None = []
 certificate_part (Some certificate) = bytes_field certificate
@@ -47,7 +47,7 @@ abbrev pub certificate_version : Option (List ℕ) → ℕ
 certificate_version None = 1
 certificate_version (Some certificate) = 2
 
--- the version in which a body with this unit, or with none, is written
+-- the version in which a body with this unit, or without a unit, is written
 abbrev pub part_version : Option StoredUnit → ℕ
 part_version None = 2
 part_version (Some unit) = certificate_version unit.certificate
@@ -56,7 +56,7 @@ part_version (Some unit) = certificate_version unit.certificate
 abbrev pub body_in : (version : ℕ) → Kind → List ℕ → Option StoredUnit → List ℕ
 body_in version kind name unit = version ∷ (kind_number kind ∷ (name_field name ++ unit_part unit))
 
--- the same in the version that is written
+-- the body with this kind, name and unit, in the version in which it is written
 abbrev pub body_bytes : Kind → List ℕ → Option StoredUnit → List ℕ
 body_bytes kind name unit = body_in (part_version unit) kind name unit
 
@@ -76,7 +76,7 @@ written_version (Withdraw name) = 2
 abbrev pub body_of : LibraryCommand → List ℕ
 body_of command = spelling (written_version command) command
 
--- a command can be spelled in this version: a unit in the one that its certificate needs, a Withdraw in both
+-- a command can be spelled in this version: an Add or Replace in the one that its certificate needs, a Withdraw in both
 abbrev pub HasVersion : (version : ℕ) → LibraryCommand → Type 0
 HasVersion version (Add name unit) = version ≡ certificate_version unit.certificate
 HasVersion version (Replace name unit) = version ≡ certificate_version unit.certificate
@@ -100,18 +100,17 @@ abbrev pub IsShort : Option (List ℕ) → Type 0
 IsShort None = Unit {0}
 IsShort (Some certificate) = length certificate < 2 ^ 32
 
--- the same for the unit's certificate, if there is a unit
+-- the length of the unit's certificate, if there are a unit and a certificate, fits in four bytes
 abbrev pub HasShort : Option StoredUnit → Type 0
 HasShort None = Unit {0}
 HasShort (Some unit) = IsShort unit.certificate
 
--- a possible certificate, if there is one: a list of bytes whose length fits in four bytes
+-- the certificate, if there is one, is possible: a list of bytes whose length fits in four bytes
 abbrev pub IsCertificate : Option (List ℕ) → Type 0
 IsCertificate None = Unit {0}
 IsCertificate (Some certificate) = (length certificate < 2 ^ 32) × AreBelow (2 ^ 8) certificate
 
--- a possible stored unit: a source of at most 65,536 bytes, 1 to 131,072 code words, at most 65,536 global words, and a certificate, or
--- none
+-- a possible unit: a source of at most 65,536 bytes, 1 to 131,072 code words, at most 65,536 global words, a possible certificate if any
 pub record IsUnit (unit : StoredUnit) : Type 0 where
   pub source : length unit.source ≤ 65536
   pub bytes : AreBelow (2 ^ 8) unit.source
@@ -122,7 +121,7 @@ pub record IsUnit (unit : StoredUnit) : Type 0 where
   pub global_words : AreBelow (2 ^ 32) unit.image.globals
   pub certificate : IsCertificate unit.certificate
 
--- the unit is a possible one, if there is one
+-- the unit, if there is one, is a possible one
 abbrev pub HoldsUnit : Option StoredUnit → Type 0
 HoldsUnit None = Unit {0}
 HoldsUnit (Some unit) = IsUnit unit
@@ -133,7 +132,7 @@ IsCommand (Add name unit) = IsTrue (is_name name) × IsUnit unit
 IsCommand (Replace name unit) = IsTrue (is_name name) × IsUnit unit
 IsCommand (Withdraw name) = IsTrue (is_name name)
 
--- these bytes are a body of this command, in a version that it can have
+-- these bytes are a body of this command, in a version in which it can be spelled
 pub record Spells (bytes : List ℕ) (command : LibraryCommand) : Type 0 where
   pub version : ℕ
   pub has_version : HasVersion version command

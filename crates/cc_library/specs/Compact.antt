@@ -13,7 +13,7 @@ abbrev pub adds : List (List ℕ × StoredUnit) → List LibraryCommand
 adds [] = []
 adds (entry ∷ others) = Add entry.0 entry.1 ∷ adds others
 
--- one Add per name; the entries of a map are in the order of their names
+-- one Add per name of the map, in the order of the names
 abbrev pub adds_of : Units → List LibraryCommand
 adds_of units = adds (entries units)
 
@@ -26,6 +26,6 @@ bodies_of (command ∷ commands) = body_of command ∷ bodies_of commands
 abbrev pub compacted : Units → List (List ℕ)
 compacted units = bodies_of (adds_of units)
 
--- the number of bytes of an area that a compacted journal takes, with this command's record after it
+-- the number of bytes of an area that a compacted journal would take with this command's record added
 abbrev pub room_compacted : Units → LibraryCommand → ℕ
 room_compacted units command = room_of (compacted units ++ body_of command ∷ [])

@@ -2,7 +2,7 @@
 pub mod Fault
 -- the bytes that are a name
 pub mod Name
--- a change that carries the unit
+-- a change that carries the unit itself
 pub mod Change
 -- the map from names to units, and what a command does to it
 pub mod Apply
@@ -14,7 +14,7 @@ pub mod Recovered
 pub mod Compact
 -- how much of its area a library takes
 pub mod Space
--- which answer a call gives, when, and what it leaves
+-- which answer a call gives and when, and what the call leaves
 pub mod Answers
 -- a run of edits
 pub mod Runs

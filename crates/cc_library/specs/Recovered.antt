@@ -7,14 +7,14 @@ use Rattle.cc_library.specs.Change.{LibraryCommand}
 use Rattle.cc_library.specs.Apply.{Units, after_all, AreAccepted}
 use Rattle.cc_library.specs.Body.{Spells}
 
--- each body is that of the command with the same index, and there are equally many of both
+-- each body spells the command with the same index, and there are as many bodies as commands
 abbrev pub AreSpelled : List (List ℕ) → List LibraryCommand → Type 0
 AreSpelled [] [] = Unit {0}
 AreSpelled [] (command ∷ commands) = ⊥
 AreSpelled (body ∷ bodies) [] = ⊥
 AreSpelled (body ∷ bodies) (command ∷ commands) = Spells body command × AreSpelled bodies commands
 
--- the bodies are those of commands, each accepted in its turn, and they lead from the map `from` to the map `to`
+-- the bodies spell commands, each accepted in its turn, which lead from the map `from` to the map `to`
 pub record LeadTo (from : Units) (bodies : List (List ℕ)) (to : Units) : Type 0 where
   pub commands : List LibraryCommand
   pub spelled : AreSpelled bodies commands
@@ -41,7 +41,7 @@ pub record RecoversAlone (image : List ℕ) (units : Units) : Type 0 where
 abbrev pub RecoversOneOf : Units → Units → List ℕ → Type 0
 RecoversOneOf old new image = RecoversAlone image old ⊎ RecoversAlone image new
 
--- what contracts see of a library: its disk, the size of an area, the bodies of its records, its map, whether it is closed
+-- what contracts see of a library: its disk, an area's size, its records' bodies, its map, and whether it is closed
 pub record View (D : Type 0) : Type 0 where
   pub disk : D
   pub area : ℕ
@@ -55,7 +55,7 @@ view_code {D} disk units =
     code_by (D × (ℕ × (List (List ℕ) × (Units × Bool)))) (coded× disk (coded× coded_ℕ (coded× (coded_list (coded_list coded_ℕ)) (coded× units coded_bool))))
     (λ v. (v.disk, (v.area, (v.bodies, (v.units, v.closed))))) (λ p. record { disk = p.0; area = p.1.0; bodies = p.1.1.0; units = p.1.1.1.0; closed = p.1.1.1.1 }) (λ _. refl)
 
--- what the type of a library keeps: the records represent the map
+-- what the type of a library keeps: the records represent the map, and the library is closed exactly if its log is
 pub record IsKept (bodies : List (List ℕ)) (units : Units) (known_closed closed : Bool) : Type 0 where
   pub stand : StandFor bodies units
   pub same : known_closed ≡ closed

@@ -1,4 +1,4 @@
--- A run of edits: each is done in turn, and after each one in which the device failed (35) the disk is opened again.
+-- A run of edits: they are carried out in order, and after each edit in which the device failed (35) the disk is opened again.
 use Rattle.std.specs.Prelude.{◌≡◌, ◌≢◌, ◌⊎◌, ℕ, Bool, false, IsTrue, List, [], ◌∷◌, ◌++◌, Result, Ok, Err}
 use Rattle.cc_library.specs.Change.{LibraryCommand}
 use Rattle.cc_library.specs.declared.command.Edit.{Edit}
@@ -17,8 +17,7 @@ abbrev pub answer_number : {T : Type 0} → Result T LibraryFault → ℕ
 answer_number (Ok done) = 0
 answer_number (Err fault) = fault_number fault
 
--- the changes that a run made: each change with number 0, those with 35 that the reopening showed, and no others; Compact changes
--- nothing
+-- `done` are the changes that a run made: each change with number 0, some of those with 35, and no others; Compact changes nothing
 abbrev pub AreDone : List Edit → List ℕ → List LibraryCommand → Type 0
 AreDone [] [] done = done ≡ []
 AreDone [] (number ∷ numbers) done = ⊥
@@ -33,8 +32,8 @@ abbrev pub after_edit : Units → Edit → Units
 after_edit units (Change command) = after units command
 after_edit units Compact = units
 
--- The image recovers to exactly one map: the map after the changes made by the first edits. The first numbers say which of them
--- were made; there are equally many of these edits and numbers.
+-- The image recovers to exactly one map: the map after the changes made by the first few edits. The first numbers, one for each of these
+-- edits, say which changes were made.
 pub record RecoversAmong (units : Units) (edits : List Edit) (numbers : List ℕ) (image : List ℕ) : Type 0 where
   pub prefix : List Edit
   pub behind : List Edit
@@ -47,7 +46,7 @@ pub record RecoversAmong (units : Units) (edits : List Edit) (numbers : List ℕ
   pub recovers : RecoversAlone image (after_all units done)
 
 module _ {D : Type 0} where
-  -- when an edit has which answer, and what it leaves
+  -- which answer an edit has, and when
   abbrev pub EditAnswers : {T : Type 0} → View D → Edit → (before after : ℕ) → Result T LibraryFault → Type 0
   EditAnswers old (Change command) before after result = ChangeAnswers old command before after result
   EditAnswers old Compact before after result = CompactAnswers old before after result
@@ -61,7 +60,7 @@ module _ {D : Type 0} where
   records_after old (Change command) = old.bodies ++ body_of command ∷ []
   records_after old Compact = compacted old.units
 
-  -- the library that an edit left is unchanged, or, if the device failed, it was opened again: on an honest disk it has the records and the
+  -- the library is as the edit left it, or, if the device failed, it was opened again: on an honest disk it then has the records and the
   -- map from before the edit or from after it
   abbrev pub GoesOn : {T : Type 0} → Bool → (D → ℕ) → View D → Edit → Result T LibraryFault → (left new : View D) → Type 0
   GoesOn honest failures old edit (Ok done) left new = new ≡ left
@@ -86,7 +85,7 @@ module _ {D : Type 0} where
     pub leaves : EditLeaves edit old left answer
     pub goes_on : GoesOn honest failures old edit answer left new
 
-  -- edits done one after the other, with their numbers
+  -- edits carried out one after the other, with their numbers
   abbrev pub AreEdited : Bool → (D → ℕ) → View D → List Edit → List ℕ → View D → Type 0
   AreEdited honest failures old [] [] new = new ≡ old
   AreEdited honest failures old [] (number ∷ numbers) new = ⊥
@@ -104,7 +103,7 @@ module _ {D : Type 0} where
     pub cause : IsTrue honest → (fault ≡ DiskFault) ⊎ (fault ≡ OutOfMemory)
     pub images : IsTrue honest → (image : List ℕ) → may_leave disk image → RecoversOneOf old.units (after_edit old.units edit) image
 
-  -- a run that stopped: the edits up to one whose disk could not be opened again, with their numbers, the last of which is 35
+  -- a run that stopped after an edit whose disk could not be opened again; `numbers` are those of the edits up to it, and the last is 35
   pub record Stopped (honest : Bool) (failures : D → ℕ) (seen : D → List ℕ) (may_leave : D → List ℕ → Type 0) (old : View D) (edits : List Edit) (numbers : List ℕ) (fault : LibraryFault) (disk : D) : Type 0 where
     pub prefix : List Edit
     pub edit : Edit

@@ -7,13 +7,12 @@ use Rattle.cc_library.specs.Apply.{Units}
 use Rattle.cc_library.specs.Compact.{compacted}
 use Rattle.cc_library.specs.Recovered.{StandFor}
 
--- for an area of that size with these records and that map: the bytes of the records, those of the records after a compaction,
--- and how many names have a unit
+-- the figures of an area with these records and this map: the records' bytes, their bytes after a compaction, and the number of names
 abbrev pub space_use : (area : ℕ) (bodies : List (List ℕ)) → Units → SpaceUse
 space_use area bodies map = record { area = area; used = length (records bodies); compacted = length (records (compacted map)); units = len map }
 
--- This is how much of the area the records take. They lead to the map, they and the closed gate after them fit in the area, and
--- after a compaction they take no more.
+-- `space` says how much of the area the records take. The records represent the map, they fit in the area with the closed gate
+-- after them, and after a compaction they take no more.
 pub record IsSpace (area : ℕ) (bodies : List (List ℕ)) (map : Units) (space : SpaceUse) : Type 0 where
   pub space_is : space ≡ space_use area bodies map
   pub stand : StandFor bodies map

@@ -13,10 +13,10 @@ use cc_journal::{Body, CLOSED};
 use cc_unit::{Certificate, StoredUnit};
 use std::alloc::{AllocError, Global};
 
-/// The body of the record of a command of this kind: the version, 1 for a unit without a certificate and else 2; the kind's byte; the
-/// name's length as one byte, and the name; for Add and Replace the source's length, the source, the number of code words, the code words,
-/// the number of global words, and the global words; and for a unit with a certificate its length, and the certificate. Each number and
-/// word is four bytes, the lowest first. A certificate has at most 4,294,967,295 bytes. Err: memory ran out.
+/// The body of a record for a command of this kind: the version, which is 1 for a unit without a certificate and otherwise 2; the kind's
+/// byte; the name's length as one byte, and the name; for Add and Replace the source's length, the source, the number of code words, the
+/// code words, the number of global words, and the global words; and, for a unit with a certificate, the certificate's length and the
+/// certificate. Each number and word is four bytes, the lowest first. A certificate has at most 4,294,967,295 bytes. Err: memory ran out.
 pub fn command_body(
     alloc: Global,
     kind: Kind,
@@ -26,7 +26,7 @@ pub fn command_body(
     requires unit { HasUnit kind (option_map (λ u. u.now) unit) }
     requires short { HasShort (option_map (λ u. u.now) unit) }
     ensures spelled { IfOk result (λ body. body.items ≡ body_bytes kind name.now (option_map (λ u. u.now) unit.entry)) }
-    // A unit and a name that have a body keep their limits.
+    // If a body is made, the name and the unit keep their limits.
     ensures name { OnOk result (IsTrue (is_name name.now)) }
     ensures unit { OnOk result (HoldsUnit (option_map (λ u. u.now) unit.entry)) }
 {
@@ -35,7 +35,7 @@ pub fn command_body(
     Ok(body)
 }
 
-/// The number of bytes that the body of a command's record takes. It takes no memory.
+/// The number of bytes that the body of a command's record takes. The call takes no memory.
 pub fn body_length(command: &LibraryCommand) -> usize
     ensures length { result ≡ length (body_of command.now) }
     // Only a certificate can be too long for a body.
@@ -49,7 +49,7 @@ pub fn body_length(command: &LibraryCommand) -> usize
     }
 }
 
-/// The body of a command's record, which must be short enough for a length of four bytes. Err: memory ran out.
+/// The body of a command's record. The body's length must fit in four bytes. Err: memory ran out.
 pub fn body_of_command(alloc: Global, command: &LibraryCommand) -> Result<Vec<u8>, AllocError>
     requires { length (body_of command.now) < 2 ^ 32 }
     ensures written { IfOk result (λ body. body.items ≡ body_of command.now) }
@@ -58,8 +58,7 @@ pub fn body_of_command(alloc: Global, command: &LibraryCommand) -> Result<Vec<u8
     Ok(framed_body_of_command(alloc, command)?.into_vec())
 }
 
-// The same as `body_of_command`, but together with the bytes around the body in its record, so that the body is written and kept
-// without a copy.
+// Like `body_of_command`, but with the bytes around the body in its record, so that the body is written and kept without a copy.
 pub(crate) fn framed_body_of_command(
     alloc: Global,
     command: &LibraryCommand,
@@ -80,7 +79,7 @@ pub(crate) fn framed_body_of_command(
     }
 }
 
-// The same as `command_body`, but together with the bytes around the body in its record.
+// Like `command_body`, but with the bytes around the body in its record.
 pub(crate) fn framed_body(
     alloc: Global,
     kind: Kind,
@@ -94,7 +93,7 @@ pub(crate) fn framed_body(
     ensures unit { OnOk result (HoldsUnit (option_map (λ u. u.now) unit.entry)) }
 {
     let length = length_with(name.bytes(), unit);
-    // All memory is taken at once: for the body, for its length before it, and for the gate after it.
+    // Memory is taken once, for the body, the length before it and the gate after it.
     let mut bytes = Vec::with_capacity(alloc, length + 5)?;
     bytes.extend_from_slice(&(length as u32).to_le_bytes())?;
     put_command(&mut bytes, kind, name, unit)?;
@@ -124,7 +123,7 @@ fn put_command(
     Ok(())
 }
 
-// The version in which a command with this unit, or with none, is written.
+// The version in which a command with this unit, or without a unit, is written.
 fn version_with(unit: Option<&StoredUnit>) -> u8
     ensures { result ≡ part_version (option_map (λ u. u.now) unit.entry) }
 {
@@ -167,7 +166,7 @@ fn unit_length(unit: &StoredUnit) -> usize
     of_source + of_code + of_globals + of_certificate
 }
 
-// The number of bytes that a certificate takes, if there is one.
+// The number of bytes that a certificate takes, or 0 without a certificate.
 fn certificate_length(certificate: &Option<Certificate>) -> usize
     ensures length { result ≡ length (certificate_part certificate.now) }
     ensures small { result < 2 ^ 63 + 4 }
@@ -179,7 +178,7 @@ fn certificate_length(certificate: &Option<Certificate>) -> usize
     }
 }
 
-// The number of bytes that a list of bytes takes with its length.
+// The number of bytes that a list of bytes takes together with its length.
 fn field_length(bytes: &[u8]) -> usize
     ensures length { result ≡ 4 + length bytes.now }
     ensures small { result < 2 ^ 63 + 4 }
@@ -188,7 +187,7 @@ fn field_length(bytes: &[u8]) -> usize
     4 + bytes.len()
 }
 
-// The number of bytes that a list of words takes with their count.
+// The number of bytes that a list of words takes together with its count.
 fn words_length(words: &[u32]) -> usize
     requires { length words.now ≤ 131072 }
     ensures length { result ≡ 4 + 4 * length words.now }
@@ -213,7 +212,7 @@ fn put_unit(body: &mut Vec<u8>, unit: &StoredUnit) -> Result<(), AllocError>
     put_certificate(body, &unit.certificate)
 }
 
-// Adds the length of a certificate, and the certificate, if there is one.
+// Adds the length of a certificate and the certificate, or nothing if the unit has no certificate.
 fn put_certificate(body: &mut Vec<u8>, certificate: &Option<Certificate>) -> Result<(), AllocError>
     requires { IsShort certificate.now }
     ensures put { OnOk result (body.new.items ≡ body.old.items ++ certificate_part certificate.now) }
@@ -234,7 +233,7 @@ fn put_words(body: &mut Vec<u8>, words: &[u32]) -> Result<(), AllocError>
 {
     body.extend_from_slice(&(words.len() as u32).to_le_bytes())?;
     let start = body.len();
-    // The words are written in place: a call of the vector for each word would take longer than writing its bytes.
+    // The words are written in place: one call of `Vec` per word would take longer than writing the word's bytes.
     body.resize(start + 4 * words.len(), 0)?;
     fill_words(&mut body[start..], words);
     Ok(())

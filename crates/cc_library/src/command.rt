@@ -10,9 +10,9 @@ use std::alloc::AllocError;
 /// The three kinds of command.
 #[derive(Clone, Copy)]
 pub enum Kind {
-    Add,
-    Replace,
-    Withdraw,
+    Add = 1,
+    Replace = 2,
+    Withdraw = 3,
 }
 
 impl Kind {
@@ -20,16 +20,13 @@ impl Kind {
     pub fn number(&self) -> u8
         ensures { result ≡ kind_number self.now }
     {
-        match self {
-            Kind::Add => 1,
-            Kind::Replace => 2,
-            Kind::Withdraw => 3,
-        }
+        *self as u8
     }
 }
 
-/// A change of a library: Add sets the unit of an absent name, Replace that of a present one, Withdraw removes a present name.
-/// What a change carries for the unit depends on who makes it: the unit itself, a compiled unit, or the unit's source.
+/// A change of a library: Add sets the unit of an absent name, Replace sets that of a present name, and Withdraw removes a
+/// present name. What a change carries as `U` depends on who makes the change: the unit itself, a compiled unit, or the unit's
+/// source.
 #[derive(Drop)]
 pub enum Change<U> {
     Add(Name, U),
@@ -37,7 +34,7 @@ pub enum Change<U> {
     Withdraw(Name),
 }
 
-/// A change that carries the unit.
+/// A change that carries the unit itself.
 pub type LibraryCommand = Change<SharedUnit>;
 
 /// A step of `Library::run`: a change of the map, or `Library::compact`.

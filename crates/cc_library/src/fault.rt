@@ -39,7 +39,7 @@ pub enum LibraryFault {
     /// 34: the record does not fit in the area.
     #[error("Full")]
     Full,
-    /// 35: the device failed in the call.
+    /// 35: the device failed during the call.
     #[error("DiskFault")]
     DiskFault,
     /// 36: an earlier call failed on the device, so the disk has to be opened again.

@@ -1,9 +1,9 @@
 //! The library: a map from names to stored units that survives any crash, over any disk.
 //!
-//! `name` has names, `unit` and `units` what is kept, `command` what changes it, `body` and `reading` a command as the body of a
-//! record, `replaying` what records represent, `library` the library and its calls, `space` how much of its area a library takes.
-//! It exports `Library`, `Name`, `UnitMap`, `Change`, `LibraryCommand`, `Edit`, `Kind`, `SharedUnit`, `SpaceUse`, `command_body`,
-//! `body_length`, `body_of_command`, `read_command`, `replay` and the faults.
+//! `name` has names, `unit` and `units` have what is kept, `command` has what changes it, `body` and `reading` write and read a
+//! command as the body of a record, `replaying` has what records represent, `library` has the library and its calls, and `space`
+//! has how much of its area a library takes. The crate exports `Library`, `Name`, `UnitMap`, `Change`, `LibraryCommand`, `Edit`,
+//! `Kind`, `SharedUnit`, `SpaceUse`, `command_body`, `body_length`, `body_of_command`, `read_command`, `replay` and the faults.
 #![tactic(auto)]
 
 mod body;

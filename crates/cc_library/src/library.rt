@@ -43,7 +43,7 @@ pub struct Library<D: Disk> {
     closed: bool,
 }
 
-// Written by hand, so that crates above use this proof and need not show again how each part is dropped.
+// Written by hand, so that crates that use this one rely on this proof and need not prove again how each part is dropped.
 impl<D: Disk + Drop> Drop for Library<D> {
     fn drop(self) {
         let Library { log, units, closed } = self;
@@ -66,12 +66,12 @@ impl<D: Disk> Model for Library<D> {
 }
 
 impl<D: Disk> Library<D> {
-    /// Opens the library on a disk: syncs it, reads its records, and carries out their commands one after the other.
+    /// Opens the library on a disk: syncs it, reads its records, and carries out their commands in order.
     ///
-    /// Refusals, in this order, with the disk handed back: 35 if the device failed in the call, 38 if there is no valid header,
-    /// 37 if an open record does not fit in its area or the records are not a list of accepted commands. 40 if memory ran out.
+    /// Refusals, in this order, with the disk handed back: 35 if the device failed during the call, 38 if there is no valid header, 37 if
+    /// an open record does not fit in its area or the records are not a list of accepted commands. 40 if memory ran out.
     pub fn open(alloc: Global, disk: D) -> Result<Library<D>, (LibraryFault, D)>
-        // On an honest disk: the map that was recovered, and to which every image then recovers.
+        // On an honest disk, the map is the one that the disk's bytes recover to, and every image then recovers to this map alone.
         ensures recovered { IfOk result (λ l. IsTrue D.honest → Recovers (D.seen disk) l.units) }
         ensures kept { IfOk result (λ l. IsTrue D.honest → (image : List ℕ) → D.may_leave l.disk image → RecoversAlone image l.units) }
         ensures records { IfOk result (λ l. IsTrue D.honest → HoldsRecords (D.seen disk) l.area l.bodies) }
@@ -82,7 +82,7 @@ impl<D: Disk> Library<D> {
         // A new journal has no records, and its map is empty.
         ensures fresh { IfOk result (λ l. IsTrue D.honest → (area : ℕ) → HoldsRecords (D.seen disk) area [] → (l.bodies ≡ []) × (l.units ≡ map.empty)) }
 
-        // When each refusal comes.
+        // Which refusal comes, and when.
         ensures sound { IfOk result (λ l. D.failures l.disk ≡ D.failures disk) }
         ensures refused { IfErr result (λ e. OpenFaults D.honest (D.seen disk) (D.failures disk) (D.failures e.1) e.0) }
 
@@ -109,14 +109,14 @@ impl<D: Disk> Library<D> {
         }
     }
 
-    /// Makes a change, as `add`, `replace` and `withdraw` do, with the same refusals, each of which leaves the same.
+    /// Makes a change, as `add`, `replace` and `withdraw` do, with the same refusals, which have the same effects.
     pub fn change(&mut self, alloc: Global, command: LibraryCommand) -> Result<(), LibraryFault>
         ensures changed { IsChanged D.Disk command self.old self.new result }
     {
         self.append_change(alloc, command)
     }
 
-    /// Sets the unit of an absent name. After Ok it is kept: no crash removes it.
+    /// Sets the unit of an absent name. After Ok the unit is kept: no crash removes it.
     ///
     /// Refusals, in this order: 36 if the library is closed, 31 if the name has a unit, 34 if the record does not fit, 35 if the
     /// device failed. 40 if memory ran out, before the first device call. Each leaves the map as it was; after 35 the library is
@@ -132,7 +132,7 @@ impl<D: Disk> Library<D> {
         self.change(alloc, LibraryCommand::Add(name, SharedUnit::new(unit)))
     }
 
-    /// Sets the unit of a present name. After Ok it is kept: no crash removes it.
+    /// Sets the unit of a present name. After Ok the new unit is kept: no crash removes it.
     ///
     /// Refusals, in this order: 36 if the library is closed, 32 if the name has no unit, 34 if the record does not fit, 35 if the
     /// device failed. 40 if memory ran out, before the first device call. Each leaves the map as it was; after 35 the library is
@@ -148,7 +148,7 @@ impl<D: Disk> Library<D> {
         self.change(alloc, LibraryCommand::Replace(name, SharedUnit::new(unit)))
     }
 
-    /// Removes a present name. After Ok it is gone for good: every crash leaves the map without it.
+    /// Removes a present name. After Ok the name is gone for good: no crash brings it back.
     ///
     /// Refusals, in this order: 36 if the library is closed, 32 if the name has no unit, 34 if the record does not fit, 35 if the device
     /// failed. 40 if memory ran out, before the first device call. Each leaves the map as it was; after 35 the library is closed, and its
@@ -160,7 +160,7 @@ impl<D: Disk> Library<D> {
     }
 
     /// Writes the records again, one Add per name in the order of the names' bytes, to the area that is not in use. This frees the room of
-    /// records that no longer count. The map stays the same, at every moment.
+    /// records that no longer count. The map is the same at every moment of the call.
     ///
     /// Refusals, in this order: 36 if the library is closed, 34 if the new records do not fit, 35 if the device failed. 40 if memory ran
     /// out, before the first device call. After 35 the library is closed, and its disk has the old records or the new ones; every other
@@ -171,12 +171,11 @@ impl<D: Disk> Library<D> {
         self.write_anew(alloc)
     }
 
-    /// Whether the record of this command would have room after compacted records. After a `compact`, a change that the map
-    /// accepts is refused with 34 exactly if this is false. The call takes no memory and makes no device call; it looks at each
-    /// unit.
+    /// Whether the record of this command would fit after the compacted records. After a `compact`, a change that the map accepts is
+    /// refused with 34 exactly if the answer here was `false`. Takes no memory and makes no device call, but looks at each unit.
     pub fn has_room_compacted(&self, command: &LibraryCommand) -> bool
         ensures room { IsTrue result ↔ (room_compacted self.now.units command.now ≤ self.now.area) }
-        // So the answer is whether the record fits in the library that a `compact` leaves.
+        // In other words, whether the record fits in the library that a `compact` leaves.
         ensures compacted { (new : View D) → CompactLeaves {T = Unit {0}} self.now new (Ok tt) → IsTrue result ↔ (room_with new command.now ≤ new.area) }
     {
         // A record takes five bytes in addition to its body.
@@ -188,8 +187,8 @@ impl<D: Disk> Library<D> {
         self.units.fits(room - body)
     }
 
-    /// Whether this change would be refused with 34 now, but not after a `compact`. The call takes no memory and makes no device
-    /// call; it looks at each unit only if 34 would come.
+    /// Whether this change would be refused with 34 now, but not after a `compact`. Takes no memory and makes no device call; looks at
+    /// each unit only if the change would be refused with 34.
     pub fn is_mended_by_compact(&self, command: &LibraryCommand) -> bool
         ensures { IsTrue result ↔ IsMended self.now command.now }
     {
@@ -206,20 +205,20 @@ impl<D: Disk> Library<D> {
         }
     }
 
-    /// Whether a call has failed on the device: every change and `compact` then answer 36. This takes no memory.
+    /// Whether a device call has failed: after this, every change and every `compact` answers 36. This takes no memory.
     pub fn is_closed(&self) -> bool
         ensures { result ≡ self.now.closed }
     {
         self.closed
     }
 
-    /// How much of its area the library takes. This takes no memory and makes no device call; it looks at each unit.
+    /// How much of its area the library takes. Takes no memory and makes no device call, but looks at each unit.
     pub fn space(&self) -> SpaceUse
         ensures space { IsSpace self.now.area self.now.bodies self.now.units result }
         // While the library is not closed, a crash leaves exactly these records.
         ensures kept { IsTrue D.honest → self.now.closed ≡ false → AllHold (D.may_leave self.now.disk) self.now.area self.now.bodies }
     {
-        // What the log promises about its images.
+        // Gives the proof what the log promises about its images.
         let _kept = self.log.is_closed();
         let size = self.log.area();
         let taken = self.log.used();
@@ -239,7 +238,7 @@ impl<D: Disk> Library<D> {
         &self.units
     }
 
-    /// The unit of a name, if it has one. This takes no memory.
+    /// The unit of a name, if the name has one. This takes no memory.
     pub fn get(&self, name: &Name) -> Option<&Arc<StoredUnit>>
         ensures { option_map (λ unit. arc_value unit.now) result ≡ map.get self.now.units name.now }
     {
@@ -265,29 +264,29 @@ impl<D: Disk> Library<D> {
         log.into_disk()
     }
 
-    /// Carries out each edit in turn, opens the disk again after each 35, and stops if that opening is refused. The answer has
-    /// the numbers of the edits that were carried out, in order (0 for Ok), and either the library as it is then, or why the run
-    /// stopped, with the disk.
+    /// Carries out each edit in turn, opens the disk again after each 35, and stops if that opening is refused. The answer has the number
+    /// of each edit that was carried out, in order (0 for Ok), and either the library after them, or the disk and the reason why the run
+    /// stopped.
     ///
-    /// The answer is 40, with no number, if there is no memory for all the numbers, which is taken first: nothing was done then.
-    /// After that only the refusals of `open` are possible; on an honest disk these are 35 and 40.
+    /// Memory for all the numbers is taken first; if it runs out, the answer is 40 without numbers, and nothing was done. After that only
+    /// the refusals of `open` are possible; on an honest disk these are 35 and 40.
     pub fn run(
         self,
         alloc: Global,
         edits: Vec<Edit>,
     ) -> (Result<Library<D>, (LibraryFault, D)>, Vec<u32>)
-        // Each number is that of the answer at that point.
+        // Each number is that of the answer to its edit.
         ensures numbers { IfOk result.0 (λ l. AreEdited D.honest D.failures self edits.items result.1.items l) }
 
-        // The map is the earlier one after the changes with number 0, and those with 35 that the reopening showed.
+        // The map is the earlier one after the changes with number 0, and those with 35 that the reopened disk turned out to have.
         ensures folded { IfOk result.0 (λ l. IsTrue D.honest
             → (done : List LibraryCommand) × AreDone edits.items result.1.items done × (l.units ≡ after_all self.units done)) }
 
-        // On a new journal the map is that of these changes from the empty one.
+        // If the run began with the empty map, the map is that of these changes alone.
         ensures from_new { IfOk result.0 (λ l. IsTrue D.honest → self.units ≡ map.empty
             → (done : List LibraryCommand) × AreDone edits.items result.1.items done × (l.units ≡ library_of done)) }
 
-        // While the library is not closed, every image recovers to its map.
+        // While the library is not closed, every image recovers to its map alone.
         ensures kept { IfOk result.0 (λ l. IsTrue D.honest → l.closed ≡ false → (image : List ℕ) → D.may_leave l.disk image → RecoversAlone image l.units) }
 
         // A crash at any moment of the run leaves the map after the changes of the edits up to some edit.
@@ -300,7 +299,7 @@ impl<D: Disk> Library<D> {
             ⊎ Stopped D.honest D.failures D.seen D.may_leave self edits.items result.1.items e.0 e.1) }
         ensures size { MatchResult result.0 (λ l. D.size l.disk ≡ D.size self.disk) (λ e. D.size e.1 ≡ D.size self.disk) }
     {
-        // What the log promises about its images, before the first edit.
+        // Gives the proof what the log promises about its images before the first edit.
         let _kept = self.log.is_closed();
         let Ok(mut numbers) = Vec::with_capacity(alloc, edits.len()) else {
             return (
@@ -317,12 +316,12 @@ impl<D: Disk> Library<D> {
                 Err(refused) => return (Err(refused), numbers),
             }
         }
-        // What the log promises about its images.
+        // Gives the proof what the log promises about its images.
         let _kept = library.log.is_closed();
         (Ok(library), numbers)
     }
 
-    // Carries out one edit of a run. The result is its number, and the library after it, opened again if the device failed.
+    // Carries out one edit of a run. The result is the edit's number, and the library after the edit, opened again if the device failed.
     fn edited(mut self, alloc: Global, edit: Edit) -> (u32, Result<Library<D>, (LibraryFault, D)>)
         ensures edited { IfOk result.1 (λ l. IsEdited D.honest D.failures self edit result.0 l) }
         ensures refused { IfErr result.1 (λ e. (result.0 ≡ 35) × IsRefused D.honest D.failures D.seen D.may_leave self edit e.0 e.1) }
@@ -331,7 +330,7 @@ impl<D: Disk> Library<D> {
             (λ l. LeavesOnly D.moment D.left_since self.disk l.disk (IsMidEdit self.units edit result.0))
             (λ e. LeavesOnly D.moment D.left_since self.disk e.1 (IsMidEdit self.units edit result.0)) }
     {
-        // What the log promises about its images, for the edits that end before a device call.
+        // Gives the proof what the log promises about its images, for edits that end before a device call.
         let _kept = self.log.is_closed();
         match self.perform(alloc, edit) {
             Ok(()) => (0, Ok(self)),
@@ -360,17 +359,17 @@ impl<D: Disk> Library<D> {
         }
     }
 
-    // Compacts the records, one Add per name: first all memory is taken, then the log decides.
+    // Compacts the records to one Add per name: first all memory is taken, then the log decides.
     fn write_anew(&mut self, alloc: Global) -> Result<(), LibraryFault>
         ensures compacted { IsCompactedAs D.Disk self.old self.new result
             (IsOldOrNew self.old.area self.old.bodies self.old.units (compacted self.old.units) self.old.units) }
     {
-        // What the log promises about its images, for the calls that end before a device call.
+        // Gives the proof what the log promises about its images, for calls that end before a device call.
         let _kept = self.log.is_closed();
         if self.closed {
             return Err(LibraryFault::Closed);
         }
-        // No body is made unless all of them fit: a body's length takes four bytes of its record.
+        // No body is made unless all of them fit, so that each body's length fits in four bytes.
         if !self.units.fits(self.log.area()) {
             return Err(LibraryFault::Full);
         }
@@ -387,12 +386,12 @@ impl<D: Disk> Library<D> {
         }
     }
 
-    // Makes one change: the map is asked, all memory is taken, then the log decides.
+    // Makes one change: the map is asked, all memory is taken, and then the log decides.
     fn append_change(&mut self, alloc: Global, command: LibraryCommand) -> Result<(), LibraryFault>
         ensures changed { IsChangedAs D.Disk command self.old self.new result
             (IsOldOrNew self.old.area self.old.bodies self.old.units (self.old.bodies ++ body_of command ∷ []) (after self.old.units command)) }
     {
-        // What the log promises about its images, for the calls that end before a device call.
+        // Gives the proof what the log promises about its images, for calls that end before a device call.
         let _kept = self.log.is_closed();
         if self.closed {
             drop(command);
@@ -409,7 +408,7 @@ impl<D: Disk> Library<D> {
                 return Err(LibraryFault::Absent);
             }
         }
-        // The body is made only if it fits: its length takes four bytes of its record.
+        // The body is made only if it fits, so that its length fits in four bytes.
         if let Err(fault) = self.log.takes(body_length(&command)) {
             drop(command);
             return Err(LibraryFault::from(fault));

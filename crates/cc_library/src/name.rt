@@ -1,4 +1,4 @@
-// The names of units, and the order of their bytes, in which the map keeps them.
+// The names of units, and their order by bytes, in which the map keeps them.
 
 ghost use Rattle.std.specs.Prelude.{◌≡◌, ◌↔◌, IsOk, IfOk, IsTrue, get_or, ◌≤◌};
 ghost use Rattle.std.specs.Ordering.{nat_cmp, as_partial_cmp, eq_by_cmp};
@@ -14,21 +14,21 @@ use crate::fault::NameFault;
 use std::cmp::Ordering;
 use std::marker::Model;
 
-/// A name has at most this many bytes.
+/// The largest number of bytes in a name.
 pub const NAME_BYTES: usize = 32;
 
-/// The name of a unit: 1 to 32 bytes, a small letter, then small letters, digits and `_`. Contracts see its bytes. They are part of the
-/// value, so a name takes no memory.
+/// The name of a unit: 1 to 32 bytes, a small letter, then small letters, digits and `_`. Contracts see its bytes. The bytes are part
+/// of the value, so a name takes no memory of its own.
 #[derive(Clone)]
 pub struct Name {
     bytes: [u8; 32],
     len: usize,
-    // The first eight bytes of the name as one number, the first byte highest, with zeros if it is shorter: most names differ in
-    // this number.
+    // The first eight bytes of the name as one number, the first byte the highest, with zeros after a shorter name. Most names differ
+    // in this number.
     prefix: u64,
 }
 
-// Written by hand, so that crates above use this proof and need not show again how each part is dropped.
+// Written by hand, so that crates that use this one rely on this proof and need not prove again how each part is dropped.
 impl Drop for Name {
     fn drop(self) {
         let Name { bytes, len, prefix } = self;
@@ -82,7 +82,7 @@ fn byte_or_zero(bytes: &[u8], i: usize) -> u8
     if i < bytes.len() { bytes[i] } else { 0 }
 }
 
-// The first eight bytes as one number, the first byte highest, with zeros if there are fewer.
+// The first eight bytes as one number, the first byte the highest, with zeros if there are fewer.
 fn prefix_of(bytes: &[u8]) -> u64
     ensures { result ≡ prefix_number 0 8 bytes.now }
 {
@@ -151,7 +151,7 @@ impl PartialOrd for Name {
     }
 }
 
-// Names are ordered by their bytes, from the first one on.
+// Names are ordered byte by byte, from the first byte on.
 impl Ord for Name {
     ghost cmp = { slice_cmp nat_cmp };
 

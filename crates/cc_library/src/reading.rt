@@ -43,11 +43,11 @@ impl<T: Drop> From<AllocFailed<T>> for ReadFault {
     }
 }
 
-/// The command that all these bytes together spell. Err: they spell no command, or memory ran out.
+/// The command that these bytes spell as a whole. Err: they spell no command, or memory ran out.
 pub fn read_command(alloc: Global, bytes: &[u8]) -> Result<LibraryCommand, ReadFault>
     // The bytes spell the command that is read.
     ensures answer { IfOk result (λ command. Spells bytes.now command) }
-    // Whatever spells a command is read as that command, and none is refused as `NoCommand`.
+    // Bytes that spell a command are read as this command, and are not refused as `NoCommand`.
     ensures only { (command : LibraryCommand) → Spells bytes.now command → Gives (λ c. c) result (Some command) }
 {
     command_at(alloc, bytes)
@@ -174,7 +174,7 @@ fn name_at(bytes: &[u8]) -> Result<(Name, &[u8]), ReadFault>
     }
 }
 
-// The number of words, from `least` to `most`, and the words.
+// A count of words, from `least` to `most`, and that many words.
 #[tactic(auto, unfolding(crate::specs::internal::Reading::words_field_in))]
 fn words_field_at(
     alloc: Global,
@@ -199,7 +199,7 @@ fn words_at(alloc: Global, count: u32, bytes: &[u8]) -> Result<(Vec<u32>, &[u8])
 {
     let count = count as usize;
     let (_, rest) = bytes_at(4 * count, bytes)?;
-    // The words are read in place: a call of the vector for each word would take longer than reading its bytes.
+    // The words are read in place: one call of `Vec` per word would take longer than reading the word's bytes.
     let mut words = Vec::with_capacity(alloc, count)?;
     words.resize(count, 0)?;
     fill_from(&mut words, bytes);

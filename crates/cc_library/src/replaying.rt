@@ -13,7 +13,7 @@ use std::alloc::Global;
 
 /// The map that records with these bodies, the oldest first, represent.
 ///
-/// 37 exactly if they represent no map: some body is not that of a command, or its command is refused by the map so far. 40 if
+/// 37 exactly if they represent no map: some body does not spell a command, or the map so far refuses the command. 40 if
 /// memory ran out.
 pub fn replay(alloc: Global, bodies: &[Body]) -> Result<UnitMap, LibraryFault>
     ensures answer { IfOk result (λ units. StandFor bodies.now units) }
@@ -35,7 +35,7 @@ fn replay_body(alloc: Global, mut units: UnitMap, body: &Body) -> Result<UnitMap
         Err(ReadFault::NoCommand) => return Err(LibraryFault::Damaged),
         Err(ReadFault::OutOfMemory) => return Err(LibraryFault::OutOfMemory),
     };
-    // One search both asks the map and changes it.
+    // A single search both asks the map and changes it.
     match units.accept(command) {
         Ok(true) => Ok(units),
         Ok(false) => Err(LibraryFault::Damaged),

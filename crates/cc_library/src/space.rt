@@ -5,9 +5,9 @@
 pub struct SpaceUse {
     /// The size of an area.
     pub area: usize,
-    /// What the records take. The closed gate after the last record takes one more byte.
+    /// The bytes that the records take. The closed gate after the last record takes one more.
     pub used: usize,
-    /// What the records would take after a compaction.
+    /// The bytes that the records would take after a compaction.
     pub compacted: usize,
     /// How many names have a unit.
     pub units: usize,

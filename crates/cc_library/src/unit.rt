@@ -13,7 +13,8 @@ pub struct SharedUnit {
     stored: Arc<StoredUnit>,
 }
 
-// Written by hand, so that crates above use this proof and need not show again how each part is dropped.
+// Written by hand, so that crates that use this one rely on this proof and need not prove again how each part is
+// dropped.
 impl Drop for SharedUnit {
     fn drop(self) {
         let SharedUnit { stored } = self;

@@ -10,6 +10,7 @@ ghost use Rattle.cc_journal.specs.Format.{records, room_of};
 ghost use Rattle.cc_library.specs.Apply.{apply, after, refusal};
 ghost use Rattle.cc_library.specs.Compact.{adds_of, compacted};
 ghost use Rattle.cc_library.specs.Recovered.{AreSpelled};
+ghost use Rattle.cc_library.specs.declared.command.Change.TheVariants as change;
 ghost use Rattle.cc_library.specs.internal.Halves.{begun, finished, undone};
 
 use crate::body::{framed_body, length_with};
@@ -28,7 +29,7 @@ pub struct UnitMap {
     units: BTreeMap<Name, SharedUnit>,
 }
 
-// Written by hand, so that crates above use this proof and need not show again how each part is dropped.
+// Written by hand, so that crates that use this one rely on this proof and need not prove again how each part is dropped.
 impl Drop for UnitMap {
     fn drop(self) {
         let UnitMap { units } = self;
@@ -60,7 +61,7 @@ impl UnitMap {
         }
     }
 
-    /// The unit with this name, if there is one. This takes no memory.
+    /// The unit under this name, if there is one. This takes no memory.
     pub fn get(&self, name: &Name) -> Option<&Arc<StoredUnit>>
         ensures { option_map (λ unit. arc_value unit.now) result ≡ map.get self.now name.now }
     {
@@ -98,7 +99,8 @@ impl UnitMap {
         Ok(names)
     }
 
-    /// Whether the records of one Add per name, and their closed gate, fit in an area of this many bytes. This takes no memory.
+    /// Whether the records of one Add per name, and the closed gate after them, fit in an area of this many bytes. This takes no
+    /// memory.
     pub fn fits(&self, area: usize) -> bool
         requires some { 1 ≤ area }
         requires few { area ≤ 2 ^ 30 }
@@ -129,7 +131,7 @@ impl UnitMap {
         (bytes, names)
     }
 
-    /// The bodies of one Add per name, in the order of the names' bytes, if an area can hold them.
+    /// The bodies of one Add per name, in the order of the names' bytes. They must fit in an area.
     pub fn bodies(&self, alloc: Global) -> Result<Vec<Body>, AllocError>
         requires { room_of (compacted self.now) ≤ 2 ^ 30 }
         ensures { IfOk result (λ bodies. AreSpelled bodies.items (adds_of self.now)) }
@@ -142,7 +144,7 @@ impl UnitMap {
         Ok(bodies)
     }
 
-    /// The number with which the command would be refused now, 31 or 32, if it would be. This takes no memory.
+    /// The number with which the map would refuse the command now, 31 or 32, if it would. This takes no memory.
     pub fn refusal(&self, command: &LibraryCommand) -> Option<u32>
         ensures { result ≡ refusal (apply self.now command.now) }
     {
@@ -173,8 +175,21 @@ impl UnitMap {
         }
     }
 
-    // Takes the memory that an accepted command needs, so that it can be finished or undone without memory. If memory runs out, the map
-    // stays as it was.
+    /// Adds a unit under a name, unless the name has one. The unit is shared. Err: memory ran out, or the unit already has as many
+    /// owners as it can have; the map stays as it was.
+    pub fn add(&mut self, name: &Name, unit: &Arc<StoredUnit>) -> Result<(), AllocError>
+        ensures ok { OnOk result (self.new ≡ after self.old (change.Add name.now (arc_value unit.now))) }
+        ensures leaves { OnErr result (self.new ≡ self.old) }
+    {
+        let unit = SharedUnit::new(Arc::try_clone(unit)?);
+        let command = LibraryCommand::Add(name.clone()?, unit);
+        let answer = self.apply(&command);
+        drop(command);
+        answer
+    }
+
+    // Takes the memory that an accepted command needs, so that the command can then be finished or undone without more. If memory runs
+    // out, the map stays as it was.
     pub(crate) fn begin(&mut self, command: &LibraryCommand) -> Result<(), AllocError>
         ensures ok { OnOk result (self.new ≡ begun self.old command.now) }
         ensures err { OnErr result (self.new ≡ self.old) }
@@ -185,7 +200,7 @@ impl UnitMap {
         }
     }
 
-    // Does the rest of a command that was begun. This takes no memory.
+    // Finishes a command that was begun. This takes no memory.
     pub(crate) fn finish(&mut self, command: LibraryCommand)
         ensures { self.new ≡ finished self.old command }
     {
@@ -200,7 +215,7 @@ impl UnitMap {
         }
     }
 
-    // Takes back what a command has begun. This takes no memory.
+    // Undoes a command that was begun. This takes no memory.
     pub(crate) fn undo(&mut self, command: LibraryCommand)
         ensures { self.new ≡ undone self.old command }
     {
@@ -220,7 +235,8 @@ impl UnitMap {
         Ok(())
     }
 
-    // Carries out the command if the map accepts it, and answers whether it does. What a refused command leaves is not promised.
+    // Carries out the command if the map accepts it, and answers whether the map does. Nothing is promised about the map after a
+    // refused command.
     pub(crate) fn accept(&mut self, command: LibraryCommand) -> Result<bool, AllocError>
         ensures done { IfOk result (λ done. IsTrue done → IsOk (apply self.old command) × (self.new ≡ after self.old command)) }
         ensures refused { IfOk result (λ done. done ≡ false → IsOk (apply self.old command) → ⊥) }
@@ -241,7 +257,7 @@ impl UnitMap {
         Ok(old.is_some())
     }
 
-    // Removes a name, and answers whether it had a unit.
+    // Removes a name, and answers whether the name had a unit.
     fn take(&mut self, name: &Name) -> bool
         ensures taken { self.new ≡ map.remove self.old name.now }
         ensures had { result ≡ map.contains_key self.old name.now }
@@ -250,7 +266,7 @@ impl UnitMap {
         old.is_some()
     }
 
-    // Removes a name, if it is there.
+    // Removes a name, if the map has it.
     pub(crate) fn remove(&mut self, name: &Name)
         ensures { self.new ≡ map.remove self.old name.now }
     {

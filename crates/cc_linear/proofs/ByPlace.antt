@@ -1,4 +1,5 @@
--- From tables by places to what the layout requires of labels: where chains end, and an order that has all that is reached.
+-- From tables by places to what the layout requires of labels: where chains end, and an order in which all reached labels
+-- occur.
 use Rattle.std.proofs.Common.{◌≡◌, ℕ, zero, suc, ◌+◌, ◌<◌, ◌≤◌, Bool, true, false, cond, ◌&&◌, List, [], ◌∷◌, length, get_or, refl, sym, ap, ◌∙◌, subst, ◌⊎◌, inl, inr, arith, Some, None, ◌==◌, All}
 use Rattle.std.specs.List.{AllPairs, Contains}
 use Rattle.std.proofs.lemmas.Bool.Decides.{nat_tests, eqb_tells}

@@ -1,4 +1,4 @@
--- A list that lays out a function's blocks does what the blocks do. The list lags: when the blocks have come to the next label,
+-- A list that lays out a function's blocks does what the blocks do. The list lags: when the blocks have reached the next label,
 -- the list may still have to execute the moves after an operation, and a jump.
 use Rattle.std.proofs.Common.{◌≡◌, ℕ, suc, ◌+◌, ◌<◌, ◌≤◌, List, [], ◌∷◌, length, refl, sym, ap, ◌∙◌, subst, ◌⊎◌, inl, inr, arith}
 use Rattle.std.specs.Prelude.{Bool, true, false, cond, ◌==◌, Option, Some, None}
@@ -66,7 +66,7 @@ module _ (arity : ℕ → ℕ) (function : Ltl) (code : List LinearItem) (end fa
   abbrev pub wide : ℕ
   wide = size + size + 1
 
-  -- The list may lag by the moves that follow an operation.
+  -- The list may lag behind the blocks by the moves that follow an operation.
   pub record Related (c : ltl.Configuration) (d : linear.Configuration) : Type 0 where
     pub copies : List Move
     pub tail : List LinearItem
@@ -91,7 +91,7 @@ module _ (arity : ℕ → ℕ) (function : Ltl) (code : List LinearItem) (end fa
       let more : Way b (length ms) c = copies_way ms tail (put (target m) (at (source m)) at) world words in
       subst (λ n. Way a n c) (let e : 1 + length ms ≡ suc (length ms) = omega arith in e) (path_then a b c 1 (length ms) step more)
 
-  -- a label takes no move
+  -- a label needs no move
   label_way : (l : ℕ) (items : List LinearItem) (at : Locations) (world : World) (words : List ℕ) → Way (at_items (Label l ∷ items) at world words) 0 (at_items items at world words)
   label_way l items at world words = (refl, refl)
 
@@ -104,12 +104,12 @@ module _ (arity : ℕ → ℕ) (function : Ltl) (code : List LinearItem) (end fa
   then_way : (d e f : linear.Configuration) (a b n : ℕ) → Arrives d a b e → Way e n f → Arrives d (a + n) (b + n) f
   then_way d e f a b n x w = record { moves = x.moves + n; enough = let g = x.enough in omega arith; few = let g = x.few in omega arith; way = path_then d e f x.moves n x.way w }
 
-  -- the list comes to the place at which it goes on, with at most one jump
+  -- the list reaches the place at which it goes on, with at most one jump
   goes_on : (tail : List LinearItem) (l : ℕ) (at : Locations) (world : World) (words : List ℕ) → GoesOnAt code tail l → Arrives (at_items tail at world words) 0 1 (at_items (place code l) at world words)
   goes_on tail l at world words (inl e) = record { moves = 0; enough = omega arith; few = omega arith; way = subst (λ x. Way (at_items x at world words) 0 (at_items (place code l) at world words)) e (path_refl (at_items (place code l) at world words)) }
   goes_on tail l at world words (inr (behind, e)) = record { moves = 1; enough = omega arith; few = omega arith; way = one_move (at_items tail at world words) (at_items (place code l) at world words) (ap (λ x. new (at_items x at world words)) e) }
 
-  -- the list executes the remaining moves, and comes to the label
+  -- the list executes the remaining moves, and reaches the label
   settles : (c : ltl.Configuration) (d : linear.Configuration) → Related c d → Arrives d 0 (size + 1) (at_items (place code (end c.label)) c.locations c.world c.words)
   settles c d r =
       let first_way = copies_way r.copies r.tail d.locations d.world d.words in

@@ -1,8 +1,8 @@
--- How a list of items is shown to keep up with blocks. The list may lag: when the blocks have come to the next label, the
--- list may still have to execute the moves after an operation, and at most one jump. A block is passed over only if it is empty
--- and its successor is nearer to the end of its chain, so a cycle of empty blocks keeps one jump. So each move of the list pays
--- for at most one block more than the longest chain has (linear_tracks of Laid). Every order that has each label once, and all
--- that is reached, is right (laid_out of Ordering).
+-- How a list of items is shown to keep up with blocks. The list may lag: when the blocks have reached the next label, the list
+-- may still have to execute the moves after an operation, and at most one jump. A block is passed over only if it is empty and
+-- its successor is nearer to the end of its chain, so a cycle of empty blocks keeps one jump. So each move of the list pays for
+-- at most one block more than the longest chain has (linear_tracks of Laid). Every order in which no label occurs twice and all
+-- reached labels occur is right (laid_out of Ordering).
 --
 -- a list that lays blocks out does what they do
 pub mod Laid

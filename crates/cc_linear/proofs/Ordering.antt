@@ -165,7 +165,7 @@ module _ (ltl : Ltl) (end far : ℕ → ℕ) (most : ℕ) (order : List ℕ) (en
         inr (items_of order, ap (λ t. cond t (items_of order) (Jump (end ltl.entry) ∷ items_of order)) not_first))
   ]
 
-  -- what the code has at a label of the order
+  -- at a label of the order the code has the label, and then the items of the label's block
   stands_at : (l : ℕ) (b : Block) (ls : List ℕ) → Before order l ls → block_at ltl.blocks l ≡ Some b → place code l ≡ Label l ∷ block_then end b b.operation ls (items_of ls)
   stands_at l b ls before e = place_code l ∙ ap items_of before ∙ ap (λ o. Label l ∷ laid_at end o ls (items_of ls)) e
 

@@ -203,7 +203,7 @@ pair_of p end far most order is ends ordered =
 
 -- ---- without the labels to which nothing leads
 
--- without these labels a pair is still a pair
+-- without the labels to which nothing leads, a pair is still a pair
 pub kept_pair : (p : Pair) → IsPair p → IsPair (record { mode = p.mode; unit = p.unit; function = p.function; ltl = p.ltl; code = kept (targets p.code) p.code })
 kept_pair p is =
     let led = targets p.code in

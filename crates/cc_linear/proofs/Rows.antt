@@ -80,7 +80,7 @@ block_alone end block (Write n) order rest = straight_then end block (Write n) o
 block_alone end block (Branch from taken other) order rest = ap (moves_then block.before) (branch_alone end from taken other order rest) ∙ moves_before block.before (branch_then end from taken other order []) rest
 block_alone end block Return order rest = moves_before block.before (item.Return ∷ []) rest
 
--- ---- what is put
+-- ---- what is written
 
 -- only the next label of the order matters
 first_alone : (end : ℕ → ℕ) (block : Block) (op : Operation) (order : List ℕ) (rest : List LinearItem) → block_then end block op (listed_first order) rest ≡ block_then end block op order rest
@@ -116,7 +116,7 @@ pub return_put : (end : ℕ → ℕ) (block : Block) (order : List ℕ) (old onc
 return_put end block order old once before b is o =
     o ∙ ap (λ xs. old ++ xs) (sym (moves_alone before (item.Return ∷ [])) ∙ ap (λ ms. moves_then ms (item.Return ∷ [])) b ∙ sym (ap (λ op. block_then end block op order []) is))
 
--- the items of a block with one way, as they are put
+-- the items of a block with one successor, as they are written
 straight_is : (end : ℕ → ℕ) (block : Block) (op : Operation) (order : List ℕ) (rest : List LinearItem) → goes_on op ≡ true
     → block_then end block op order rest ≡ moves_then block.before (operation_then block.operation (moves_then block.after (tail_of end block order rest)))
 straight_is end block (Nop n) order rest g = refl

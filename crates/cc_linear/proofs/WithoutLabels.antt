@@ -25,7 +25,7 @@ use Rattle.cc_linear_language.specs.Linear.{labels, place, IsItem, Configuration
 use Rattle.cc_linear.specs.Targets.{targets, NoneIdle}
 use Rattle.cc_linear.specs.internal.Idle.{IsRising, has, stays, kept}
 
--- ---- whether a label is among numbers
+-- ---- whether a label is in a list of numbers
 
 contains_more : (x l : ℕ) (xs : List ℕ) → Contains xs l → Contains (x ∷ xs) l
 contains_more x l xs (k, lt, e) = (suc k, (let z : suc k < suc (length xs) = omega arith in z), e)
@@ -84,7 +84,7 @@ found_has xs l (Err i) found up = let h = searched xs l (Err i) found up in sym 
 
 -- ---- the labels and the targets of what is kept
 
--- all targets are among these labels
+-- all targets of the items are in `led`
 abbrev Below : List ℕ → List LinearItem → Type 0
 Below led items = AllByRecursion (λ l. has led l ≡ true) (targets items)
 
@@ -116,7 +116,7 @@ targets_kept led (Read ∷ items) = targets_kept led items
 targets_kept led (Write ∷ items) = targets_kept led items
 targets_kept led (Return ∷ items) = targets_kept led items
 
--- the numbers that are among these labels
+-- the numbers that are in `led`
 abbrev only : (led : List ℕ) → List ℕ → List ℕ
 only led [] = []
 only led (l ∷ ls) = cond (has led l) (l ∷ only led ls) (only led ls)
@@ -142,7 +142,7 @@ labels_kept led (Read ∷ items) = labels_kept led items
 labels_kept led (Write ∷ items) = labels_kept led items
 labels_kept led (Return ∷ items) = labels_kept led items
 
--- a label stays exactly if it was there and is among `led`
+-- a label stays exactly if it was there and is in `led`
 pub only_has : (led ls : List ℕ) (l : ℕ) → has led l ≡ true → Contains ls l → Contains (only led ls) l
 only_has led [] l h (k, lt, e) = absurd (omega arith)
 only_has led (x ∷ xs) l h (zero, lt, e) =

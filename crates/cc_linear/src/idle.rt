@@ -42,7 +42,7 @@ fn sorted_targets(alloc: Global, items: &[LinearItem]) -> Result<Vec<u32>, Alloc
     Ok(led)
 }
 
-// Whether an item stays if jumps and branches lead to these labels.
+// Whether an item stays, given the labels to which jumps and branches lead.
 fn stays(led: &[u32], item: &LinearItem) -> bool
     requires { IsRising led.now }
     ensures { result ≡ has_its_place led.now item.now }

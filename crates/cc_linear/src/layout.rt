@@ -1,4 +1,4 @@
-// Lays out all blocks as a list, in an order of their places.
+// Lays out all blocks as a list, in a given order of their places.
 
 ghost use Rattle.std.specs.Prelude.{◌≡◌, ◌<◌, ◌++◌, [], length, drop, Contains, All, OnOk, IfOk};
 ghost use Rattle.cc_linear.specs.internal.Layout.{block_then, leads, laid};
@@ -21,7 +21,7 @@ fn end_label(labels: &[u32], ends: &[usize], label: u32) -> u32
     labels[end_of(labels, ends, label)]
 }
 
-/// Puts a block after the items. `following` is the label that comes next.
+/// Appends the items of a block. `following` is the label that comes next.
 fn put_block(
     items: &mut Vec<LinearItem>,
     labels: &[u32],
@@ -66,7 +66,8 @@ fn put_block(
     }
 }
 
-/// The list that lays out blocks in an order of their places. It begins with a jump if the entry does not come first. Err: memory ran out.
+/// The list that lays out the blocks at the places in `order`, in that order. It begins with a jump if the entry does not come first. Err:
+/// memory ran out.
 pub fn lay_out(
     alloc: Global,
     labels: &[u32],

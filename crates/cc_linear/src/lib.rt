@@ -2,10 +2,10 @@
 //!
 //! The language is that of `cc_linear_language`. The order of blocks, and which empty ones are passed over, may be chosen freely:
 //! `specs/internal/Lays` says when a list lays out a function's blocks, and the lemmas of `proofs/Laid` prove that such a list keeps up
-//! with the source. Every order that has each label once, and all that is reached, can be laid out (`proofs/Ordering`).
+//! with the source. Every order in which no label occurs twice and all reached labels occur can be laid out (`proofs/Ordering`).
 //!
 //! `lineariser` is the whole pass. `places` and `tables` read the blocks by their places in the list, `tracing` finds where chains of empty
-//! blocks end and chooses an order, `writing` and `layout` put the items one after the other, and `idle` leaves out the labels to which
+//! blocks end and chooses an order, `writing` and `layout` write the items one after another, and `idle` leaves out the labels to which
 //! nothing leads.
 #![tactic(auto)]
 

@@ -35,10 +35,10 @@ fn items_of(alloc: Global, ltl: &Ltl) -> Result<Vec<LinearItem>, AllocError>
 }
 
 /// The Linear of a function. Chains of empty blocks are passed over; an endless cycle of them stays an endless jump. In the chosen order a
-/// loop's test is at its bottom and the likely way falls through, so one turn of a loop executes one branch and no jump. Unreachable blocks
-/// are left out, and so is each label to which nothing leads. The pair keeps the LTL as well.
+/// loop's test is at the loop's bottom and a branch falls through to its likely successor, so one turn of a loop executes one branch and no
+/// jump. Unreachable blocks are left out, and so is each label to which nothing leads. The pair keeps the LTL as well.
 ///
-/// `AllocError` if memory runs out; the pair is dropped then.
+/// Fails with `AllocError` if memory runs out; the pair is then dropped.
 pub fn linearise(alloc: Global, pair: LtlPair) -> Result<LinearPair, AllocError>
     ensures mode { IfOk result (λ made. made.mode ≡ pair.mode) }
     ensures unit { IfOk result (λ made. made.unit ≡ pair.unit) }

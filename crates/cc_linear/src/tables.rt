@@ -8,7 +8,7 @@ use crate::tracing::ways::Ways;
 use cc_ltl::{Block, Operation};
 use std::alloc::{AllocError, Global};
 
-// The place to which a block leads: its successor's if it is empty, else its own.
+// The place to which a block leads: its successor's if the block is empty, else its own.
 fn next_place(labels: &[u32], own: usize, block: &Block) -> usize
     requires labels { AreLabels labels.now }
     requires leads { LeadsIn labels.now block.now.operation }

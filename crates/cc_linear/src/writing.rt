@@ -1,4 +1,4 @@
-// The items of a block's parts. Moves and the item after them are put by one call, so that each caller names the moves too.
+// The items of a block's parts. One call writes moves and the item after them, so that no caller leaves the moves out.
 
 ghost use Rattle.std.specs.Prelude.{◌≡◌, ◌++◌, [], ◌∷◌, cond, OnOk};
 ghost use Rattle.cc_linear_language.specs.declared.item.LinearItem.TheVariants.{Jump};
@@ -11,7 +11,7 @@ use cc_linear_language::LinearItem;
 use cc_ltl::{Block, Move, Operation, Register};
 use std::alloc::AllocError;
 
-/// Puts moves after the items, and an item after them, if there is one. Err: memory ran out.
+/// Appends moves, and an item after them, if there is one. Err: memory ran out.
 pub fn put(
     items: &mut Vec<LinearItem>,
     moves: &[Move],
@@ -94,7 +94,7 @@ pub fn way(to: u32, following: Option<u32>) -> Option<LinearItem>
     }
 }
 
-/// A branch that falls through to whichever way comes next, followed by a jump if neither does.
+/// A branch that falls through to whichever successor comes next, followed by a jump if neither does.
 pub fn branch(
     from: Register,
     nonzero: u32,

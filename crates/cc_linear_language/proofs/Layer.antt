@@ -18,7 +18,7 @@ use Rattle.cc_linear_language.specs.Linear.{Configuration, does, linear_move, li
 use Rattle.cc_c_semantics.specs.declared.mode.Mode.{Mode}
 use Rattle.cc_linear_language.specs.Pair.{KeepsUp, FollowsFunction}
 
--- if a move goes on, or calls, there was something from which it was made
+-- if a move goes on, or calls, there is a value from which it was made
 tried_goes : {C X : Type 0} (x : Option X) (go : X → Moving C) (d : C) → tried x go ≡ Goes d → (y : X) × (x ≡ Some y) × (go y ≡ Goes d)
 tried_goes (Some y) go d e = (y, refl, e)
 tried_goes None go d e = absurd cc
@@ -33,7 +33,7 @@ GrowsTo world d = IsPrefixOf world.output d.world.output
 same_goes : (c d : Configuration) → Goes c ≡ Goes d → c ≡ d
 same_goes c d e = cc
 
--- the output stays as it is
+-- a move that leaves the output as it was does not shorten it
 keeps : (world : World) (c d : Configuration) → c.world.output ≡ world.output → Goes c ≡ Goes d → GrowsTo world d
 keeps world c d same e = subst (GrowsTo world) (same_goes c d e) ([], rw same (append-nil world.output))
 
@@ -64,7 +64,7 @@ does_grows arity code (Read ∷ items) at world words d e = keeps world _ d refl
 does_grows arity code (Write ∷ items) at world words d e = subst (GrowsTo world) (same_goes _ d e) (_, refl)
 does_grows arity code (Return ∷ items) at world words d e = absurd cc
 
--- what a call hands over, and the output after its answer
+-- a call hands over the output so far, and after the call's answer the output is the answer's
 abbrev CallsWith : World → Question → (Answer → Configuration) → Type 0
 CallsWith world q resume = (q.world.output ≡ world.output) × ((a : Answer) → (resume a).world.output ≡ a.world.output)
 

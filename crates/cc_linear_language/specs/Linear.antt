@@ -37,7 +37,7 @@ IsItem slots functions labels Read = Unit {0}
 IsItem slots functions labels Write = Unit {0}
 IsItem slots functions labels Return = Unit {0}
 
--- there are few enough slots, no label occurs twice, and each item is one of such a function
+-- there are few enough slots, no label occurs twice, and each item is an item of a function with these slots
 pub record IsLinear (slots functions : ℕ) (items : List LinearItem) : Type 0 where
   pub few : slots ≤ most_slots
   pub distinct : AllPairs (λ (a b : ℕ). a ≢ b) (labels items)
@@ -62,12 +62,12 @@ place [] label = []
 place (Label other ∷ items) label = if other == label then Label other ∷ items else place items label
 place (item ∷ items) label = place items label
 
--- after a call's answer: what the call destroys is unknown, and its value is the result
+-- after a call's answer: what the call destroys is unknown, and the answer's value is the result
 abbrev pub items_after_answer : List LinearItem → Locations → (words : List ℕ) → Answer → Configuration
 items_after_answer items at words a = at_items items (put result_location a.value (after_call words at)) a.world (left_after_call words)
 
--- The next item, in the whole code; `arity` says how many parameters each function has. A label is no move: the item after it is executed.
--- A run goes wrong after the last item, and if a jump leads to no place.
+-- What the next item does; `code` has all the items, and `arity` says how many parameters each function has. A label is not a move: the
+-- item after it is executed. A run goes wrong after the last item, and if a jump leads to no place.
 abbrev pub does : (arity : ℕ → ℕ) → (code : List LinearItem) → List LinearItem → Locations → World → (words : List ℕ) → Moving Configuration
 does arity code [] at world words = Fails
 does arity code (Label label ∷ items) at world words = does arity code items at world words

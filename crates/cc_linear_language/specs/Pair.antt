@@ -32,8 +32,7 @@ tree_of p = (source p.unit).externals
 abbrev pub most_blocks : ℕ
 most_blocks = 4096
 
--- the run of the LTL keeps up with the function: this is `KeepsUp` of `cc_validate`, repeated here so that crates based on Linear
--- need not wait for the validator
+-- the LTL's run keeps up with the function: `KeepsUp` of `cc_validate`, repeated so that crates over Linear need not wait for it
 abbrev pub LtlKeepsUp : Mode → List External → (function : ℕ) → Ltl → Type 0
 LtlKeepsUp mode unit f ltl = (rate : ℕ) × ((meaning : Meaning) → IsMeaning mode unit meaning → TracksForAll meaning f rate (ltl_move meaning.arity ltl) ltl_output (ltl_start ltl))
 
@@ -42,7 +41,7 @@ abbrev pub KeepsUp : Mode → List External → (function slots : ℕ) → List 
 KeepsUp mode unit f slots code =
     (rate : ℕ) × ((meaning : Meaning) → IsMeaning mode unit meaning → TracksForAll meaning f rate (linear_move meaning.arity code) linear_output (linear_start slots code))
 
--- so, for each number of open calls below the limit, the run follows the function's body, for all lists of unknown words
+-- for each number of open calls below the limit, the run follows the function's body, for all lists of unknown words
 abbrev pub FollowsFunction : Mode → List External → (function slots : ℕ) → List LinearItem → Type 0
 FollowsFunction mode unit f slots code =
     (meaning : Meaning) → IsMeaning mode unit meaning → (opened : ℕ) → opened < most_open → (ws : List ℕ) (h : World) → IsCall meaning f ws h

@@ -3,8 +3,8 @@
 use cc_ltl::{Move, Register};
 use cc_words::{Binary, Unary, Width};
 
-/// One item of a function's list. A label is no move of the run: at a label the next item is executed. A call takes its arguments in `x10`
-/// and up and puts its result in `x10`. A read puts its word in `x10`; a write and a return take theirs from there.
+/// One item of a function's list. A label is not a move of the run: at a label the next item is executed. A call takes its arguments in
+/// `x10` and up and leaves its result in `x10`. A read leaves its word in `x10`; a write and a return take theirs from `x10`.
 #[derive(Clone, Copy)]
 pub enum LinearItem {
     /// A place to which jumps and branches lead.

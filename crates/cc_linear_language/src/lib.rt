@@ -2,7 +2,7 @@
 //!
 //! `item` has the items, `display` their text, and `pair` the type that keeps the fact that a function's Linear does what the function
 //! does. `specs/Linear.antt` defines what one item does. `cc_linear` makes Linear from LTL; this crate is separate from it so that crates
-//! that work on Linear need not wait for it, nor for the validator.
+//! that work on Linear need not wait for `cc_linear`, nor for the validator.
 #![tactic(auto)]
 
 mod display;

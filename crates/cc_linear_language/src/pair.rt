@@ -16,8 +16,8 @@ use std::marker::Model;
 use std::sync::Arc;
 
 /// The Linear of one function of a typed unit. Contracts see the unit, the function's number, the LTL that was laid out and the items. The
-/// type carries the fact that their run follows the function's meaning, whatever the unknown words are, so no pair exists for which this is
-/// false.
+/// type carries the fact that the run of the items follows the function's meaning, whatever the unknown words are. No pair exists for which
+/// this is false.
 #[derive(Drop)]
 pub struct LinearPair {
     mode: Mode,
@@ -87,7 +87,7 @@ impl LinearPair {
         self.function
     }
 
-    /// The number of slots in its frame: at most 495, as many as the LTL has.
+    /// The number of slots in the function's frame: as many as the LTL has, and at most 495.
     pub fn slots(&self) -> u16
         ensures answer { result ≡ self.now.ltl.slots }
     {
@@ -116,7 +116,7 @@ impl LinearPair {
         self.code.as_slice()
     }
 
-    /// The unit's owner and the LTL, from which the piece is made.
+    /// The unit and the LTL, from which the piece is made.
     pub fn into_parts(self) -> (Arc<TypedUnit>, Ltl)
         ensures unit { arc_value result.0 ≡ self.unit }
         ensures ltl { result.1 ≡ self.ltl }

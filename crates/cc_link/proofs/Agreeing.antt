@@ -24,14 +24,14 @@ use Rattle.cc_link.proofs.Image.{called_behavior, linked_agrees, linked_backed}
 use Rattle.cc_link.proofs.Sizes.{AllKept, few_words, image_are_words, kept_at, words_in_order}
 
 module _ (meanings : TypedUnitsHaveMeanings) (mains : TypedUnitsHaveMain) (programs : ProgramsAreNumbered) (sized : ObjectsAreSized) where
-  -- a program's run is the call of main by its number
+  -- what a program shows in a mode is what the call of its main by number shows
   same_program : (mode : Mode) (text : List ℕ) (unit : List External) (main : HasMain unit) (meaning : Meaning) → IsMeaning mode unit meaning → (input : List ℕ) (n : ℕ)
       → called_behavior meaning (main_of unit) (objects_of (initial_globals unit)) input n ≡ behavior_in mode (source_with text unit) input n
   same_program mode text unit main meaning is input n =
       ap (λ (call : (n opened f : ℕ) → List ℕ → _ → _). outcome_by_number (call n 0 (main_of unit) [] (world_of (first_shared unit input)))) is.call
       ∙ sym (programs mode (source_with text unit) main input n)
 
-  -- the items of each function make an image whose run follows the program's
+  -- if there are items of each function, the image that they make follows what the program shows in the mode
   pub unit_follows : (mode : Mode) (text : List ℕ) (unit : List External) → IsTyped unit → IsWithinLimits unit → AllKept (objects unit) → (frames : List ℕ) (fs : List (List PieceItem)) → length fs ≡ length (functions unit) → code_words fs ≤ most_code
       → ((f : ℕ) → f < length (functions unit) → AreOf mode unit f (get_or frames f 0) (get_or fs f []))
       → (input : List ℕ) → AreWords input → Follows (behavior_in mode (source_with text unit) input) (image_behavior (image_of unit fs) input)
@@ -48,7 +48,7 @@ module _ (meanings : TypedUnitsHaveMeanings) (mains : TypedUnitsHaveMain) (progr
       (λ f lt. all f (subst (λ n. f < n) is.functions lt) meaning is (laid_out meaning.objects few) (laid_in_order meaning.objects few))
       (objects_of (initial_globals unit)) (sym is.objects) (kept_at (objects unit) kept) (image_of unit fs) refl (words_in_order unit) (image_are_words (objects unit) kept) input are)
 
-  -- the image follows the program on a board with the stack that the image takes
+  -- the image follows the program also on a board that backs only the stack that the image takes
   pub unit_backed : (mode : Mode) (text : List ℕ) (unit : List External) → IsTyped unit → IsWithinLimits unit → AllKept (objects unit) → (frames : List ℕ) (fs : List (List PieceItem)) → length fs ≡ length (functions unit) → code_words fs ≤ most_code
       → ((f : ℕ) → f < length (functions unit) → AreOf mode unit f (get_or frames f 0) (get_or fs f []))
       → (bytes : ℕ) → need frames fs 1024 (main_of unit) ≤ bytes → bytes ≤ stack_to - stack_from → (input : List ℕ) → AreWords input → Follows (behavior_in mode (source_with text unit) input) (backed_image_behavior bytes (image_of unit fs) input)

@@ -1,5 +1,5 @@
--- What `made_in` answers, given the results of its steps. The parameters a, b, m, n, o and i say: no stranger, none doubled, none
--- missing, how many functions there are, their pieces, and their items.
+-- What `made_in` answers, given the results of its steps. The parameters say: a, that no piece is a stranger; b, that none is
+-- doubled; m, that none is missing; n, how many functions there are; o, which their pieces are; i, which their items are.
 use Rattle.std.proofs.Common.{◌≡◌, ℕ, ◌<◌, ◌≤◌, ◌^◌, ◌⊎◌, inl, inr, List, [], length, Some, None, Ok, Err, sym, ap, ◌∙◌, subst, arith}
 use Rattle.std.proofs.lemmas.List.{length-map}
 use Rattle.std.specs.Borrow.{Bor}
@@ -34,7 +34,7 @@ module _ (mode : Mode) (s : Source) (ps : List Piece) (count : ℕ) (a : strange
   number : count ≡ length (functions s.externals)
   number = n ∙ defined_long s
 
-  -- returns-in_err-bodies-clause-refused
+  -- if the pieces are refused because one is missing, linking is refused with the same fault
   pub order_refused : (fault : LinkFault) → (fault ≡ OutOfMemory) ⊎ (missing ps 0 count ≡ Some fault) → (fault ≡ OutOfMemory) ⊎ (linked_in mode s ps ≡ Err fault)
   order_refused fault (inl e) = inl e
   order_refused fault (inr e) = inr (missing_refused mode s ps fault a b (ap (λ k. missing ps 0 k) (sym number) ∙ e))
@@ -49,27 +49,27 @@ module _ (mode : Mode) (s : Source) (ps : List Piece) (count : ℕ) (a : strange
     pub are_bodies : lent fs ≡ bodies s.externals ps
     are_bodies = i ∙ ap (λ (l : List Piece). all_items l) are_ordered
 
-    -- returns-then-not-fits-clause-refused
+    -- if the code has too many words, linking is refused with ImageTooLarge
     pub size_refused : most_code < code_words (lent fs) → linked_in mode s ps ≡ Err ImageTooLarge
     size_refused large = large_refused mode s ps a b none (subst (λ (l : List (List PieceItem)). most_code < code_words l) are_bodies large)
 
-    -- stored-made-requires-clause-count
+    -- there are as many lists of items as functions
     pub count_is : length fs ≡ length (functions s.externals)
     count_is = sym (length-map fs (λ (c : Bor (List PieceItem)). c.now)) ∙ ap (λ (l : List (List PieceItem)). length l) are_bodies ∙ bodies_long s.externals ps none
 
-    -- stored-made-requires-clause-few_functions
+    -- the number of pieces fits in four bytes
     pub few_is : IsWithinLimits s.externals → length os < 2 ^ 32
     few_is limits =
         let long : length os ≡ length (functions s.externals) = sym (length-map os (λ (c : Bor Piece). c.now)) ∙ ap (λ (l : List Piece). length l) are_ordered ∙ order_long ps 0 (length (functions s.externals)) none in
         let few = few_functions s limits in
         omega (arith, long, few, defined_long s)
 
-    -- stored-made-requires-clause-stay
+    -- all items stay in their functions
     pub stay_is : TokensAreOne → TreesAreOne → TypedUnitsHaveMeanings → ObjectsAreSized → ∥ SpellsText s.text s.externals ∥₁ → IsTyped s.externals → IsWithinLimits s.externals → All IsPieceOfUnit ps → AllStayIn (length fs) (lent fs)
     stay_is tokens trees meanings sized spelled typed limits all =
         subst (λ k. AllStayIn k (lent fs)) (sym count_is) (subst (λ (l : List (List PieceItem)). AllStayIn (length (functions s.externals)) l) (sym are_bodies) (bodies_stay tokens trees meanings sized mode s ps spelled typed limits a all none))
 
-    -- returns-clause-answer
+    -- if the code fits, linking answers the unit that was made
     pub answer_is : (u : StoredUnit) → code_words (lent fs) ≤ most_code → u ≡ record { source = s.text; image = image_of s.externals (lent fs); certificate = Some (certificate_of (all_ltl (lent_pieces os))) } → linked_in mode s ps ≡ Ok u
     answer_is u few e =
         let same : record { source = s.text; image = image_of s.externals (lent fs); certificate = Some (certificate_of (all_ltl (lent_pieces os))) } ≡ unit_of s ps =
@@ -82,7 +82,7 @@ module _ (mode : Mode) (s : Source) (ps : List Piece) (count : ℕ) (a : strange
     agree_is law spelled checked all u few e =
         let h = law mode s ps u spelled checked all (answer_is u few e) in subst (λ t. AgreeIn mode t u.image) (sym h.0) h.1
 
-    -- returns-clause-backed
+    -- the unit's image follows its program on each board with at least the stack that the pieces take
     pub backed_is : LinkedUnitsFollow → LinkedUnitsAreBacked → ∥ SpellsText s.text s.externals ∥₁ → IsChecked s → All IsPieceOfUnit ps → (u : StoredUnit) → code_words (lent fs) ≤ most_code
         → u ≡ record { source = s.text; image = image_of s.externals (lent fs); certificate = Some (certificate_of (all_ltl (lent_pieces os))) } → IsBackedFrom mode u.source (stack_of s.externals ps) u.image
     backed_is follow law spelled checked all u few e =

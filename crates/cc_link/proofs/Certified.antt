@@ -1,5 +1,5 @@
--- The certificate of a unit that was made spells the LTL of each function, and the run of that LTL keeps up with the function: a
--- piece's type keeps this for its own unit, and all pieces are of one text, which has one tree.
+-- The certificate of a unit that was made spells the LTL of each function, and the run of this LTL keeps up with the function.
+-- The type of a piece keeps this for the piece's own unit, and all the pieces are of one text, which has one tree.
 use Rattle.std.proofs.Common.{◌≡◌, ℕ, zero, suc, ◌+◌, ◌<◌, ◌≤◌, List, [], ◌∷◌, ◌++◌, length, get_or, slice_get, drop, Option, Some, None, Result, Ok, Err, refl, sym, ap, ◌∙◌, subst, arith, append_assoc}
 use Rattle.std.proofs.Math.Logic.{∥∥₁_elim, ∥∥₁_map, ∥∥₁_prop}
 use Rattle.std.proofs.lemmas.List.{drop_more, length-map}
@@ -41,7 +41,7 @@ all_told : (from : ℕ) (ps : List Piece) → EachFrom HasLtl from ps → AllByR
 all_told from [] h = tt
 all_told from (p ∷ ps) h = ((h.1.0, ltl_short p.ltl h.1.0 h.1.1), all_told (suc from) ps h.2)
 
--- what a piece in this mode of a unit with this tree keeps about its LTL's run
+-- the piece is in this mode and of a unit with this tree, and the run of its LTL keeps up
 abbrev Keeps : Mode → List External → Piece → Type 0
 Keeps mode tree p = ((p.mode ≡ mode) × (tree_of p ≡ tree)) × LtlKeepsUp p.mode (tree_of p) p.function p.ltl
 
@@ -59,7 +59,7 @@ keeps_at mode tree from (p ∷ ps) h (suc f) l e =
     let here : suc from + f ≡ from + suc f = omega arith in
     subst (λ g. LtlKeepsUp mode tree g l) here (keeps_at mode tree (suc from) ps h.2 f l e)
 
--- the first pieces of all functions keep this
+-- the LTL of the first piece of each function keeps up
 all_keep : (mode : Mode) (tree : List External) (ps : List Piece) → AreOfTree mode tree ps → All IsCompiled ps → (n : ℕ) → missing ps 0 n ≡ None → EachKeepsUpIn mode tree (all_ltl (in_order ps 0 n))
 all_keep mode tree ps t k n e f l at =
     let here : 0 + f ≡ f = omega arith in
@@ -100,13 +100,13 @@ pub put_ok : {T E : Type 0} (r : Result T E) (new put old : List ℕ) → new �
 put_ok (Ok x) new put old e = e
 put_ok (Err x) new put old e = tt
 
--- the field of a function that was written
+-- writing the length of a function's LTL, and then the LTL, adds the function's field
 pub field_added : (old one new word written : List ℕ) (l : Ltl) → one ≡ old ++ word → word ≡ word_bytes (length written) → written ≡ ltl_bytes l → new ≡ one ++ written → new ≡ old ++ ltl_field l
 field_added old one new word written l a b c d =
     let field : word ++ written ≡ ltl_field l = ap (λ w. w ++ written) b ∙ ap (λ (bytes : List ℕ). word_bytes (length bytes) ++ bytes) c in
     d ∙ ap (λ w. w ++ written) a ∙ append_assoc old word written ∙ ap (λ w. old ++ w) field
 
--- the LTL of one more piece
+-- once the field of one more piece is added, the bytes so far and the fields left make up the same list
 pub ltl_next : (ps : List (Bor Piece)) (i : ℕ) (d : Bor Piece) (l : Ltl) (before new all : List ℕ) → i < length ps → d ≡ get_or ps i d → l ≡ d.now.ltl → new ≡ before ++ ltl_field l
     → before ++ flat_map ltl_field (all_ltl (lent_pieces (drop i ps))) ≡ all → new ++ flat_map ltl_field (all_ltl (lent_pieces (drop (i + 1) ps))) ≡ all
 ltl_next ps i d l before new all lt is own added h =

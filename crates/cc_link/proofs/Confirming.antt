@@ -1,4 +1,4 @@
--- What is confirmed if a unit that was made again is the stored one.
+-- What is confirmed if the unit that was made again equals the stored one.
 use Rattle.std.proofs.Common.{◌≡◌, ℕ, List, All, Option, Some, sym, ap, ◌∙◌, subst}
 use Rattle.cc_c_semantics.specs.declared.mode.Mode.{Mode}
 use Rattle.cc_emit.specs.Piece.{Piece, IsPieceOfUnit}
@@ -13,11 +13,11 @@ use Rattle.cc_link.specs.Made.{IsCompiled, IsMadeIn}
 same_bytes : (a b : List ℕ) → ◌≡◌ {A = Option (List ℕ)} (Some a) (Some b) → a ≡ b
 same_bytes a b e = cc
 
--- what a compiled piece's type keeps
+-- compiled pieces have what the type of a piece keeps about its unit
 all_of_unit : (ps : List Piece) → All IsCompiled ps → All IsPieceOfUnit ps
 all_of_unit ps k i d lt = (k i d lt).of_unit
 
--- a unit that was made in a mode follows in it
+-- if a unit was made in a mode, its image agrees with its text in this mode
 pub made_follows : LinkedUnitsFollow → (mode : Mode) (u : StoredUnit) → IsMadeIn mode u → AgreeIn mode u.source u.image
 made_follows law mode u m =
     let h = law mode m.of m.pieces u m.spelled m.checked (all_of_unit m.pieces m.compiled) m.linked_is in

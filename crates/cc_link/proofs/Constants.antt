@@ -1,5 +1,5 @@
 -- The elements of a spelled unit's objects are in the range of their widths: each number that a text spells is a word, what is
--- computed from words is one, and bytes keep eight bits.
+-- computed from words is a word, and bytes keep eight bits.
 use Rattle.std.proofs.Common.{◌≡◌, ℕ, zero, suc, ◌+◌, ◌-◌, ◌^◌, ◌<◌, ◌≤◌, Bool, true, false, ◌&&◌, ◌||◌, not, nat_le, ◌==◌, if◌then◌else◌, List, [], ◌∷◌, ◌++◌, length, map, replicate, Option, Some, None, unwrap_or, option_map, refl, sym, subst, arith, ◌%◌, inl, inr}
 use Rattle.std.proofs.lemmas.Bool.{leb-true}
 use Rattle.cc_words.specs.internal.Word.{IsWord}
@@ -120,7 +120,7 @@ binary_is Or t a b w h k e = some_word _ w e (IsWord-or a b h k)
 binary_is LogicalAnd t a b w h k e = some_word _ w e (IsWord-truth_value (is_true a && is_true b))
 binary_is LogicalOr t a b w h k e = some_word _ w e (IsWord-truth_value (is_true a || is_true b))
 
--- the left operand decides, or the right one is a word too
+-- the value of `&&` or `||` is a word, if the right operand is a word wherever it decides
 decided_is : (op : BinaryOperator) (a w : ℕ) (rest : Option ℕ) → (rest ≡ Some w → IsWord w) → decided_or (decided op a) rest ≡ Some w → IsWord w
 decided_is LogicalAnd a w rest f e = by (is_true a) e
   where
@@ -227,7 +227,7 @@ objects_are (o ∷ p ∷ rest) ts h are =
     let all : Have (h.1 ++ outside h.0 ∷ h.2) = subst Have h.6 are in
     (object_is o h.1 h.4 (prefix_of h.1 (outside h.0 ∷ h.2) all), objects_are (p ∷ rest) h.2 h.5 (back_of h.1 (outside h.0 ∷ h.2) all).1)
 
--- the elements of an array of `unsigned char` keep eight bits, whatever its list is
+-- the elements of an array of `unsigned char` keep eight bits, whatever its initialisers are
 pub byte_list : (vs : List ConstantExpr) (zeros : ℕ) → AreBytes (map (λ (c : ConstantExpr). initial_word (Some c) % 2 ^ 8) vs ++ replicate zeros 0)
 byte_list [] zero = tt
 byte_list [] (suc zeros) = (omega arith, byte_list [] zeros)

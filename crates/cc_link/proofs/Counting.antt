@@ -1,4 +1,4 @@
--- From counted steps to Follows, if the later outcomes of the second run go on from its earlier ones.
+-- Derives `Follows` from counted steps, if the later outcomes of the second run go on from its earlier ones.
 use Rattle.std.proofs.Common.{◌≡◌, ℕ, suc, ◌+◌, ◌-◌, ◌*◌, ◌<◌, ◌≤◌, refl, sym, ap, ◌∙◌, subst, ◌⊎◌, inl, inr, arith}
 use Rattle.std.proofs.Math.Nat.{mul-le-mul_left}
 use Rattle.std.proofs.lemmas.Bool.{cases_lt}
@@ -11,7 +11,7 @@ pub record GoesOn {R : Type 0} (x y : Outcome R) : Type 0 where
   pub output : IsPrefixOf x.output y.output
   pub stays : StaysBy x.stop x y
 
--- what a run from the start owes to an outcome of the source at n steps
+-- what the run must have reached for an outcome of the source after n steps
 abbrev pub Matched : (z : ℕ → Outcome ℕ) → (rate n : ℕ) → Outcome ℕ → Stop ℕ → Type 0
 Matched z rate n a Going = (m : ℕ) × (z m ≡ a) × (n ≤ rate * m)
 Matched z rate n a (Ended w) = (m : ℕ) × (z m ≡ a)
@@ -24,7 +24,7 @@ module _ (at : ℕ → Outcome ℕ) (more : (m k : ℕ) → GoesOn (at m) (at (m
   covered_refl : (a : Outcome ℕ) → IsRight a.stop → Covered a a
   covered_refl a ok = (ok, begins_refl a.output, λ r e. e)
 
-  -- what goes on to a right outcome is covered by it
+  -- if a right outcome goes on from outcome z, it covers z
   covered_by : (z a : Outcome ℕ) (t : Stop ℕ) → z.stop ≡ t → StaysBy t z a → IsRight a.stop → IsPrefixOf z.output a.output → Covered z a
   covered_by z a Going e stays ok b = (subst IsRight (sym e) tt, b, λ r f. absurd (let g : Going ≡ Ended r = sym e ∙ f in cc))
   covered_by z a (Ended q) e stays ok b = subst (Covered z) (sym stays) (covered_refl z (subst IsRight (sym e) tt))

@@ -23,7 +23,7 @@ each_most n frame own (Call g ∷ items) le =
     (omega arith, each_most n frame own items (omega arith))
 each_most n frame own (Go k ∷ items) le = each_most n frame own items le
 
--- how much stack a call of f needs, given the number of open calls
+-- how much stack a call of f takes, given how many calls are open
 abbrev pub need_opened : (frames : List ℕ) (bodies : List (List PieceItem)) → (f opened : ℕ) → ℕ
 need_opened frames bodies f opened = need frames bodies (1024 - opened) f
 

@@ -1,4 +1,4 @@
--- Items, and then functions, that are filled in one after the other.
+-- Items filled in one after the other, and then functions filled in one after the other.
 use Rattle.std.proofs.Common.{◌≡◌, ℕ, zero, suc, ◌+◌, ◌-◌, ◌*◌, ◌%◌, ◌^◌, ◌<◌, ◌≤◌, List, [], ◌∷◌, ◌++◌, length, get_or, take, drop, refl, sym, ap, ◌∙◌, subst, arith, append_assoc}
 use Rattle.std.proofs.lemmas.List.{at_drop_more, drop_more, map-append}
 use Rattle.std.specs.Borrow.{Bor}
@@ -31,7 +31,7 @@ leads_of places place items (Go n) are h stay = place_at (length places) place n
 pub leads_at : (places : List ℕ) (place i : ℕ) (items : List PieceItem) (d : PieceItem) → ArePlaces places → CanStand (length places) place items → i < length items → Leads places place (get_or items i d)
 leads_at places place i items d are h lt = leads_of places place items (get_or items i d) are h (stays_at (length places) (length items) i items d lt h.stay)
 
--- one more word
+-- once the word of item i is added, the words so far and those of the items left make up the same list
 pub word_added : (p : ℕ → ℕ) (place a i w : ℕ) (items : List PieceItem) (d : PieceItem) (instr : Instr) (ws all : List ℕ) → i < length items → w ≡ encoding_of instr → instr ≡ filled p place a (get_or items i d)
     → ws ++ encoded (fill p place a (drop i items)) ≡ all → (ws ++ (w ∷ [])) ++ encoded (fill p place (a + 4) (drop (i + 1) items)) ≡ all
 word_added p place a i w items d instr ws all lt e f h =
@@ -51,7 +51,7 @@ pub place_added : (a i : ℕ) (bodies : List Lent) (d : Lent) (ps all : List ℕ
 place_added a i bodies d ps all lt h =
     append_assoc ps (a ∷ []) _ ∙ ap (λ l. ps ++ l) (sym (at_drop_more (λ (bs : List Lent). places_from a (lent bs)) bodies i d lt)) ∙ h
 
--- if all functions from number i on can be there, so can function i, and all those after it
+-- if all functions from number i on can be at their places, so can function i, and so can those after it
 pub stand_next : (functions a i : ℕ) (bodies : List Lent) (d : Lent) → i < length bodies → d ≡ get_or bodies i d → CanAllStand functions a (lent (drop i bodies)) → CanStand functions a d.now × CanAllStand functions (a + 4 * length d.now) (lent (drop (i + 1) bodies))
 stand_next functions a i bodies d lt is h =
     subst (λ (b : Lent). CanStand functions a b.now × CanAllStand functions (a + 4 * length b.now) (lent (drop (i + 1) bodies))) (sym is)

@@ -54,7 +54,7 @@ module _ (meaning : Meaning) (few : total meaning.objects ≤ 65536) (main : ℕ
   abbrev shared : World
   shared = record { globals = initial; input = input; output = [] }
 
-  -- after the first jump
+  -- the state after the first jump
   abbrev entered : State
   entered = record { pc = place_of pieces main; registers = with_register first.registers 1 0x10004; memory = start_memory (globals_image initial); input = input; output = [] }
 
@@ -92,7 +92,7 @@ module _ (meaning : Meaning) (few : total meaning.objects ≤ 65536) (main : ℕ
       ∙ ap (λ to. jumps 1 to first) e
       ∙ ap (λ n. if n == 0 then Continues entered else Traps) p.aligned
 
-  -- after main's return
+  -- after main has returned, two more instructions end the run with main's word
   exit : (t : State) (a : Answer) → ComesBack layout entered a t → shown (seen (run_above stack.floor code 2 (going t))) ≡ record { stop = Ended a.value; output = a.world.output }
   unfolding run_above
   exit t a r =
@@ -126,7 +126,7 @@ module _ (meaning : Meaning) (few : total meaning.objects ≤ 65536) (main : ℕ
       let l = linked_meets meaning layout main pieces is_function count fits stack frames all enough in
       follows machine (λ m k. run_more stack.floor code m k (going first)) (power l.0 1024) (called_behavior meaning main initial input) (λ n. matched (power l.0 1024) n _ (l.1 shared entered n enters))
 
--- the whole: an image of these words and globals agrees with the source, on each stack that has enough for each call
+-- the image with these words and globals agrees with the source on each stack that has enough for every call
 pub linked_backed : (meaning : Meaning) (few : total meaning.objects ≤ 65536) (main : ℕ) (pieces : List (List PieceItem)) → main < meaning.functions → meaning.arity main ≡ 0 → length pieces ≡ meaning.functions → 3 + size_of pieces ≤ 131072
     → (stack : Stack) (frames : ℕ → ℕ) → ((f : ℕ) → f < meaning.functions → IsPiece meaning (laid_out meaning.objects few) f (frames f) (get_or pieces f []))
     → ((f : ℕ) → f < meaning.functions → IsEnough stack.need f (frames f) (get_or pieces f [])) → stack.floor + stack.need main 0 ≤ stack_to

@@ -1,5 +1,5 @@
--- The objects one after the other from 0x200000 on, their image, and what the machine loads from it at its start: byte i of the
--- packed words is element i.
+-- The objects one after the other from 0x200000 on, their image, and what the machine loads from this image at its start: byte
+-- i of the packed words is element i.
 use Rattle.std.proofs.Common.{◌≡◌, ℕ, zero, suc, ◌+◌, ◌-◌, ◌*◌, ◌/◌, ◌%◌, ◌^◌, ◌<◌, ◌≤◌, ◌⊎◌, inl, inr, Bool, true, false, List, [], ◌∷◌, ◌++◌, length, map, get_or, refl, sym, ap, ap₂, ◌∙◌, subst, arith}
 use Rattle.std.specs.Prelude.{nat_le, ◌&&◌, ◌==◌, if◌then◌else◌, slice_index}
 use Rattle.std.specs.List.{concat}
@@ -29,7 +29,7 @@ globals_image os = concat (map object_image os)
 
 -- ---- bytes in words
 
--- each word is in the range of an element of the width
+-- each number is in the range of an element of this width
 abbrev pub AreKept : Width → List ℕ → Type 0
 AreKept Byte bs = AreBytes bs
 AreKept Word ws = AreWords ws
@@ -114,7 +114,7 @@ laid_out objects few = record {
 pub laid_in_order : (objects : List Size) (few : total objects ≤ 65536) → IsInOrder (laid_out objects few)
 laid_in_order objects few = λ g. refl
 
--- ---- what is there
+-- ---- the places of words and elements
 
 in_front : (xs ys : List ℕ) (i : ℕ) → i < length xs → get_or (xs ++ ys) i 0 ≡ get_or xs i 0
 in_front [] ys i lt = absurd (omega arith)
@@ -128,7 +128,7 @@ behind (x ∷ xs) ys i = let e : suc (length xs) + i ≡ suc (length xs + i) = o
 abbrev pub object_in : List Object → (number : ℕ) → Object
 object_in gs g = get_or gs g (record { width = Word; words = [] })
 
--- word k of an object's image
+-- word k of an object's image is at index k after the words of the objects before it
 image_at : (gs : List Object) (g k : ℕ) → k < length (object_image (object_in gs g)) → get_or (globals_image gs) (words_before (map size_of gs) g + k) 0 ≡ get_or (object_image (object_in gs g)) k 0
 image_at [] g k lt = absurd (omega arith)
 image_at (o ∷ os) zero k lt = let e : 0 + k ≡ k = omega arith in ap (λ n. get_or (object_image o ++ globals_image os) n 0) e ∙ in_front (object_image o) (globals_image os) k lt
@@ -146,7 +146,7 @@ memory_at globals k =
     ∙ ap (λ b. if b then slice_index globals ((a - globals_from) / 4) else 0) (le-leb globals_from a (omega arith))
     ∙ ap (λ n. get_or globals n 0) f
 
--- an element, if the words of its object are there
+-- if memory has the words of an object, it has each of the object's elements
 element_by : (w : Width) (ws : List ℕ) (m : ℕ → ℕ) (b i : ℕ) → b % 4 ≡ 0 → AreKept w ws → ((k : ℕ) → k < words_of w (length ws) → m (b + 4 * k) ≡ get_or (packed w ws) k 0) → i < length ws
     → element_at (record { width = w; elements = length ws }) m b i ≡ get_or ws i 0
 element_by Byte ws m b i z all stands lt =
@@ -155,7 +155,7 @@ element_by Byte ws m b i z all stands lt =
     ap₂ (λ a j. byte_in (m a) j) at byte ∙ ap (λ n. byte_in n (i % 4)) (stands (i / 4) (omega arith)) ∙ packed_byte ws i all lt
 element_by Word ws m b i z all stands lt = stands i lt
 
--- the machine's memory at its start has each element
+-- the machine's memory has each element of each object at the start
 pub object_at : (gs : List Object) (objects : List Size) → map size_of gs ≡ objects → ((g : ℕ) → AreKept (object_in gs g).width (object_in gs g).words) → (g i : ℕ) → i < (size_in objects g).elements
     → element_at (size_in objects g) (start_memory (globals_image gs)) (object_address objects g) i ≡ get_or (object_in gs g).words i 0
 object_at gs objects is all g i lt =
@@ -170,7 +170,7 @@ object_at gs objects is all g i lt =
 
 -- ---- words
 
--- the image has as many words as the objects take
+-- the objects' image has as many words as the objects take in all
 pub image_long : (os : List Object) → length (globals_image os) ≡ total (map size_of os)
 image_long [] = refl
 image_long (o ∷ os) =

@@ -1,4 +1,4 @@
--- What linking's answer says about pieces, and that the unit that they make agrees with its text.
+-- What the answer of linking says about pieces, and why the unit that they make agrees with its text.
 use Rattle.std.proofs.Common.{◌≡◌, ℕ, zero, suc, ◌+◌, ◌<◌, ◌≤◌, ◌==◌, Bool, true, false, if◌then◌else◌, nat_lt, List, [], ◌∷◌, length, get_or, map, Option, Some, None, is_some, Result, Ok, Err, refl, sym, ap, ◌∙◌, subst, arith}
 use Rattle.std.proofs.Math.Logic.{∥∥₁_elim, ∥∥₁_map, ∥∥₁_map₂, ∥∥₁_prop}
 use Rattle.std.proofs.lemmas.Bool.{ltb-false, eqb-true}
@@ -85,7 +85,8 @@ module _ (tokens : TokensAreOne) (trees : TreesAreOne) where
 
 -- ---- each function has its piece
 
--- the first piece of a function is of that function, and is what all the pieces are
+-- if a piece is found for function f, it is a piece of f, and `Is` is true of it if `Is` is true of all the
+-- pieces
 pub found : (Is : Piece → Type 0) (ps : List Piece) (f : ℕ) (p : Piece) → AllByRecursion Is ps → piece_of ps f ≡ Some p → (p.function ≡ f) × Is p
 found Is [] f p all e = absurd (let h : ◌≡◌ {A = Option Piece} None (Some p) = e in cc)
 found Is (q ∷ ps) f p all e = by (q.function == f) (λ d. found Is ps f p all.1 d) refl e
@@ -96,7 +97,7 @@ found Is (q ∷ ps) f p all e = by (q.function == f) (λ d. found Is ps f p all.
         subst (λ (r : Piece). (r.function ≡ f) × Is r) same (eqb-true q.function f is, all.0)
     by false again is e = again e
 
--- pieces of the functions from this one on, one for each
+-- these are pieces of the functions from `from` on, one for each, in order
 abbrev pub EachFrom : (Is : Piece → Type 0) (from : ℕ) → List Piece → Type 0
 EachFrom Is from [] = Unit {0}
 EachFrom Is from (p ∷ ps) = (p.function ≡ from) × Is p × EachFrom Is (suc from) ps
@@ -122,7 +123,7 @@ order_long ps from (suc count) e = by (piece_of ps from) (λ d. order_long ps (s
 pub bodies_long : (tree : List External) (ps : List Piece) → missing ps 0 (length (functions tree)) ≡ None → length (bodies tree ps) ≡ length (functions tree)
 bodies_long tree ps e = length-map (ordered tree ps) (λ (p : Piece). p.items) ∙ order_long ps 0 (length (functions tree)) e
 
--- a piece in this mode of a unit with this tree
+-- the piece is in this mode, of a unit with this tree, and has what its type keeps
 abbrev IsOfTree : Mode → List External → Piece → Type 0
 IsOfTree mode tree p = ((p.mode ≡ mode) × (tree_of p ≡ tree)) × IsPieceOfUnit p
 
@@ -159,7 +160,7 @@ small fs e = by (nat_lt most_code (code_words fs)) refl e
 
 -- ---- the law
 
--- an image that agrees in a mode agrees
+-- if an image agrees with a text in some mode, it agrees with the text
 agreement_of : CheckedFollows → (mode : Mode) (text : List ℕ) (image : Image) → AgreementIn mode text image → Agreement text image
 agreement_of law Plain text image a = record { tree = a.tree; spelled = a.spelled; typed = a.typed; follows = λ input are. a.follows input are }
 agreement_of law Checked text image a = record {
@@ -194,7 +195,7 @@ module _ (tokens : TokensAreOne) (trees : TreesAreOne) (meanings : TypedUnitsHav
   pub units_agree : CheckedFollows → LinkedUnitsAgree
   units_agree law s pieces u spelled checked all e = let h = units_follow Plain s pieces u spelled checked all e in (h.0, agree_in_agree law Plain s.text u.image h.1)
 
-  -- the image that pieces make follows its program on a board with the stack that the image takes
+  -- the image that pieces make follows its program on a board that backs only the stack that the image takes
   pub units_are_backed : LinkedUnitsAreBacked
   units_are_backed mode s pieces u spelled checked all e bytes enough few =
       let n = not_refused (link_refusal mode s pieces) (unit_of s pieces) u e in

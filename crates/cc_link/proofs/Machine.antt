@@ -1,4 +1,4 @@
--- Runs of the machine: a path's run, and more instructions.
+-- Runs of the machine: the run along a path, and runs of more instructions.
 use Rattle.std.proofs.Common.{◌≡◌, ℕ, zero, suc, ◌+◌, ◌-◌, ◌≤◌, List, [], ◌∷◌, ◌++◌, Option, Some, None, Bool, true, false, if◌then◌else◌, refl, sym, ap, ◌∙◌, subst, arith}
 use Rattle.std.specs.Prelude.{◌==◌, ◌%◌}
 use Rattle.cc_rv32.specs.declared.instr.Instr.{Instr}
@@ -17,7 +17,7 @@ use Rattle.cc_link.proofs.Counting.{GoesOn}
 abbrev pub going : State → Run
 going s = record { state = s; outcome = Runs }
 
--- the lowest address of a machine's stack, and how many bytes of it each call has
+-- the lowest address of a machine's stack, and how many bytes of stack each call has
 pub record Stack : Type 0 where
   pub floor : ℕ
   pub low : stack_from ≤ floor

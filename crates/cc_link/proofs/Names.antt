@@ -5,7 +5,7 @@ use Rattle.cc_ast.specs.Tree.{Declaration, Definition, Objects}
 use Rattle.cc_types.specs.Limits.{function_names}
 use Rattle.cc_types.specs.Typed.{definitions}
 
--- a definition has the name with its number
+-- the name of definition n is name n of the unit
 pub named : (es : List tree.External) (n : ℕ) (s : tree.Signature) (body : tree.Stmts) → slice_get (definitions es) n ≡ Some (Definition s body) → slice_get (function_names es) n ≡ Some s.name
 named [] n s body e = absurd cc
 named (Declaration q ∷ rest) n s body e = named rest n s body e

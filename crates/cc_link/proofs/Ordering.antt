@@ -1,4 +1,4 @@
--- Going over one more piece.
+-- Testing one more piece: it is no stranger, and has what its type keeps.
 use Rattle.std.proofs.Common.{◌≡◌, ℕ, zero, suc, ◌+◌, ◌<◌, ◌≤◌, ◌⊎◌, inl, inr, true, if◌then◌else◌, List, [], ◌∷◌, length, get_or, drop, Some, refl, sym, ap, ◌∙◌, subst, arith}
 use Rattle.std.proofs.lemmas.Bool.{cases_lt}
 use Rattle.std.proofs.lemmas.List.{drop_more}
@@ -13,7 +13,7 @@ use Rattle.cc_link.specs.Made.{IsCompiled}
 use Rattle.cc_link.specs.declared.fault.LinkFault.TheVariants.{Stranger}
 use Rattle.cc_link.specs.Linked.{is_own, stranger, lent_pieces}
 
--- a piece of the text and in the mode is no stranger
+-- a piece of the text in the mode is not a stranger, so the search goes on after it
 pub stranger_next : (mode : Mode) (text : List ℕ) (at : ℕ) (pieces : List (Bor Piece)) (d : Bor Piece) → at < length pieces → d ≡ get_or pieces at d → is_own mode text d.now ≡ true
     → stranger mode text at (lent_pieces (drop at pieces)) ≡ stranger mode text (at + 1) (lent_pieces (drop (at + 1) pieces))
 stranger_next mode text at pieces d lt is e =
@@ -37,7 +37,7 @@ kept_next Keeps pieces at x lt is piece kept k d low = by (cases_lt k at)
     by (inl less) = kept k d less
     by (inr more) = let e : at ≡ k = omega arith in subst (λ n. Keeps (get_or (lent_pieces pieces) n d)) e (subst Keeps (sym (lent_at pieces at x d lt ∙ ap (λ (b : Bor Piece). b.now) (sym is))) piece)
 
--- a piece of this unit has what its type and that of the unit keep
+-- a piece of this unit has what its type and the unit's type keep
 pub compiled_of : (u : parsed.Unit) (piece : Piece) → piece.unit ≡ u → ∥ SpellsText (source u).text (source u).externals ∥₁ → IsChecked (source u) → IsPieceOfUnit piece → IsCompiled piece
 compiled_of u piece is spelled checked of_unit = record {
   spelled = subst (λ (v : parsed.Unit). ∥ SpellsText (source v).text (source v).externals ∥₁) (sym is) spelled;

@@ -1,4 +1,4 @@
--- If there is one piece of each of a unit's functions, in their order, only the size of the image can be refused.
+-- If there is one piece of each of a unit's functions, in order, linking can only refuse the size of the image.
 use Rattle.std.proofs.Common.{◌≡◌, ℕ, zero, suc, ◌+◌, ◌<◌, ◌≤◌, ◌⊎◌, inl, inr, ◌==◌, nat_lt, Bool, true, false, ◌||◌, if◌then◌else◌, List, [], ◌∷◌, ◌++◌, length, Some, None, is_some, Err, refl, sym, ap, ◌∙◌, arith, Result, Ok}
 use Rattle.std.proofs.lemmas.Bool.{eq-eqb, eqb-true, cases_lt}
 use Rattle.std.specs.Option.{option_or}
@@ -77,7 +77,7 @@ only_fault : (s : Source) (ps : List Piece) (f : LinkFault) (b : Bool) → unles
 only_fault s ps f true e = let h : ◌≡◌ {A = Result StoredUnit LinkFault} (Err ImageTooLarge) (Err f) = e in cc
 only_fault s ps f false e = absurd (let h : ◌≡◌ {A = Result StoredUnit LinkFault} (Ok (unit_of s ps)) (Err f) = e in cc)
 
--- among the refusals of linking only 25 is left
+-- if there is one piece of each function, in order, linking can only be refused with 25
 pub only_large : (mode : Mode) (s : Source) (ps : List Piece) (f : LinkFault) → AreFromIn mode s.text 0 ps → length ps ≡ length (functions s.externals) → linked_in mode s ps ≡ Err f → f ≡ ImageTooLarge
 only_large mode s ps f h count e =
     let n = length (functions s.externals) in
@@ -89,7 +89,7 @@ only_large mode s ps f h count e =
     ∙ ap (λ o. option_or o (option_or (missing ps 0 n) (too_large (bodies s.externals ps)))) b ∙ ap (λ o. option_or o (too_large (bodies s.externals ps))) c in
     only_fault s ps f (nat_lt most_code (code_words (bodies s.externals ps))) (sym (ap (λ o. unless_refused o (unit_of s ps)) is) ∙ e)
 
--- one more piece
+-- if the next function's piece is added to pieces from `from` on, these are still in order
 pub one_from : (mode : Mode) (text : List ℕ) (from : ℕ) (ps : List Piece) (p : Piece) → AreFromIn mode text from ps → p.mode ≡ mode → (source p.unit).text ≡ text → p.function ≡ from + length ps → AreFromIn mode text from (ps ++ p ∷ [])
 one_from mode text from [] p h m e f = ((m, e), omega arith, tt)
 one_from mode text from (q ∷ ps) p h m e f = (h.0, h.1, one_from mode text (suc from) ps p h.2 m e (omega arith))

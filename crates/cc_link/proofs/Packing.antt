@@ -1,4 +1,4 @@
--- Packing bytes into words, four at a time: what one more word adds, and which bytes are then left.
+-- Packing bytes into words, four at a time: what one more word adds, and which bytes are left after it.
 use Rattle.std.proofs.Common.{◌≡◌, ℕ, zero, suc, ◌+◌, ◌*◌, ◌^◌, ◌<◌, ◌≤◌, List, [], ◌∷◌, ◌++◌, length, get_or, drop, refl, sym, ◌∙◌, ap, arith, append_assoc}
 use Rattle.std.proofs.lemmas.List.{get_or-drop, drop-drop, drop_all, length-drop}
 use Rattle.cc_words.specs.declared.operators.Width.TheVariants.{Byte}
@@ -14,7 +14,7 @@ byte_below [] i h = omega arith
 byte_below (b ∷ bs) zero h = h.0
 byte_below (b ∷ bs) (suc i) h = byte_below bs i h.1
 
--- the first word of the bytes that are left, and the rest
+-- packing at least one byte yields a first word and the words of the bytes after the first four
 step : (bs : List ℕ) → 0 < length bs
     → packed_bytes bs ≡ word_of_bytes (get_or bs 0 0) (get_or bs 1 0) (get_or bs 2 0) (get_or bs 3 0) ∷ packed_bytes (drop 4 bs)
 step [] some = absurd (omega (arith, some))
@@ -23,7 +23,7 @@ step (a ∷ b ∷ []) some = refl
 step (a ∷ b ∷ c ∷ []) some = refl
 step (a ∷ b ∷ c ∷ d ∷ rest) some = refl
 
--- the first word of the bytes from an index on, and the rest
+-- packing the bytes from `4 * n` on yields one word and the words of the bytes from `4 * (n + 1)` on
 pub step_at : (bs : List ℕ) (n : ℕ) → 4 * n < length bs
     → packed_bytes (drop (4 * n) bs)
     ≡ word_of_bytes (get_or bs (4 * n) 0) (get_or bs (4 * n + 1) 0) (get_or bs (4 * n + 2) 0) (get_or bs (4 * n + 3) 0) ∷ packed_bytes (drop (4 * (n + 1)) bs)
@@ -39,7 +39,7 @@ step_at bs n within =
     ∙ ap (λ (w : ℕ). word_of_bytes (get_or bs (4 * n) 0) (get_or bs (4 * n + 1) 0) (get_or bs (4 * n + 2) 0) w ∷ packed_bytes (drop 4 rest)) (at 3)
     ∙ ap (λ (l : List ℕ). word_of_bytes (get_or bs (4 * n) 0) (get_or bs (4 * n + 1) 0) (get_or bs (4 * n + 2) 0) (get_or bs (4 * n + 3) 0) ∷ packed_bytes l) behind
 
--- the words so far and one more
+-- once one more word is added, the words so far and those of the bytes left make up the same list
 pub word_more : (bs before words : List ℕ) (n word : ℕ) → 4 * n < length bs
     → word ≡ word_of_bytes (get_or bs (4 * n) 0) (get_or bs (4 * n + 1) 0) (get_or bs (4 * n + 2) 0) (get_or bs (4 * n + 3) 0)
     → words ++ packed_bytes (drop (4 * n) bs) ≡ before ++ packed_bytes bs
@@ -50,7 +50,7 @@ word_more bs before words n word within is so_far =
     ∙ ap (λ (l : List ℕ). words ++ l) (sym (step_at bs n within))
     ∙ so_far
 
--- past the last byte nothing is left
+-- past the last byte nothing is left to pack
 pub none_left : (bs : List ℕ) (n : ℕ) → length bs ≤ 4 * n → packed_bytes (drop (4 * n) bs) ≡ []
 none_left bs n all = ap packed_bytes (drop_all (4 * n) bs all)
 
@@ -72,7 +72,7 @@ declaration_apart (Declaration s) es = refl
 declaration_apart (Definition s body) es = refl
 declaration_apart (Objects t os) es = words_apart os (objects es)
 
--- the words of one more declaration
+-- once the words of one more declaration are added, those so far and those left make up the same list
 pub declaration_more : (e : External) (es : List External) (words all : List ℕ) → words ++ image_words (objects (e ∷ es)) ≡ all
     → (words ++ external_image e) ++ image_words (objects es) ≡ all
 declaration_more e es words all so_far =

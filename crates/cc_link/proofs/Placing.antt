@@ -1,4 +1,5 @@
--- Pieces joined in order are at their places as words, and the call of main does what the source's does.
+-- Pieces joined in order are at their places as words, and the call of main does what the source's call of
+-- main does.
 use Rattle.std.proofs.Common.{◌≡◌, ℕ, zero, suc, ◌+◌, ◌-◌, ◌*◌, ◌/◌, ◌%◌, ◌<◌, ◌≤◌, List, [], ◌∷◌, ◌++◌, Some, None, length, get_or, take, option_map, option_and_then, refl, sym, ap, ◌∙◌, subst, ◌⊎◌, inl, inr, arith, append_assoc}
 use Rattle.std.specs.Prelude.{slice_get, nat_le, ◌&&◌, ◌==◌, if◌then◌else◌}
 use Rattle.std.proofs.lemmas.Bool.{le-leb, cases_lt}
@@ -33,7 +34,7 @@ seam xs y ys =
     let e = length-append xs (y ∷ ys) in
     slice_get_read (xs ++ y ∷ ys) (length (xs ++ y ∷ ys)) (length xs) y refl (omega arith) (sym (get_or-append_seam xs y ys y))
 
--- the word of an instruction at its place is that instruction
+-- decoding the word of an instruction at its place yields that instruction
 worded : (xs : List Instr) (y : Instr) (ys : List Instr) → IsEncodable y → option_and_then instruction_of (slice_get (encoded (xs ++ y ∷ ys)) (length xs)) ≡ Some y
 worded xs y ys fit =
     ap (option_and_then instruction_of) (slice_get-map encoding_of (xs ++ y ∷ ys) (length xs))
@@ -72,7 +73,7 @@ placed_behind stack code places place prefix (x ∷ items) back a e at fit =
       placed_behind stack code places place more items back (a + 4) (e ∙ g) (omega arith) fit.1,
     )
 
--- one piece among all
+-- the instructions of all pieces, split before and after those of piece f
 record Split (places : ℕ → ℕ) (a : ℕ) (pieces : List (List PieceItem)) (f : ℕ) : Type 0 where
   prefix : List Instr
   back : List Instr
@@ -145,7 +146,7 @@ module _ (meaning : Meaning) (layout : ObjectLayout meaning.objects) (main : ℕ
       let e : k ≡ f = omega arith in
       subst (λ x. PieceMeets meaning layout x (frames x) (a + b) (get_or pieces x [])) e (slower_piece meaning layout k (frames k) b (a + b) (get_or pieces k []) (omega arith) h)
 
-  -- one rate that is enough for all pieces
+  -- if each piece meets its contract at some rate, all of them meet it at one common rate
   common : (k : ℕ) → ((f : ℕ) → f < k → IsPiece meaning layout f (frames f) (get_or pieces f [])) → (rate : ℕ) × ((f : ℕ) → f < k → PieceMeets meaning layout f (frames f) rate (get_or pieces f []))
   common zero h = (0, λ f lt. absurd (omega arith))
   common (suc k) h =

@@ -1,4 +1,4 @@
--- Four bytes can state how many bytes the LTL of a function takes: it has at most 4,096 blocks, each with at most 65,535 moves on
+-- The length of a function's LTL fits in four bytes: an LTL function has at most 4,096 blocks, each with at most 65,535 moves on
 -- either side.
 use Rattle.std.proofs.Common.{◌≡◌, ℕ, ◌*◌, ◌^◌, ◌<◌, ◌≤◌, List, [], ◌∷◌, ◌++◌, length, refl, arith, length-append}
 use Rattle.std.specs.List.{AllByRecursion, flat_map}

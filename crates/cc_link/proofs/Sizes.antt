@@ -1,4 +1,4 @@
--- The objects of a checked unit: how many words of the image they have, and what their elements are.
+-- The objects of a checked unit: how many words of the image they take, and what their elements are.
 use Rattle.std.proofs.Common.{◌≡◌, ℕ, zero, suc, ◌+◌, ◌≤◌, Bool, true, false, if◌then◌else◌, nat_lt, List, [], ◌∷◌, ◌++◌, length, map, refl, ap, ◌∙◌, arith}
 use Rattle.std.proofs.lemmas.Bool.{ltb-false}
 use Rattle.cc_words.specs.Widths.{words_of}
@@ -81,7 +81,7 @@ few_globals sized unit typed h =
 
 -- ---- what the elements are
 
--- before the run each element of these objects is in the range of its width
+-- each initial element of these objects is in the range of its width
 abbrev pub AllKept : List Object → Type 0
 AllKept [] = Unit {0}
 AllKept (o ∷ rest) = AreKept (object_width o) (initial_words o) × AllKept rest

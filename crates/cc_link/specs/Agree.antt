@@ -1,5 +1,4 @@
--- When an image agrees with a text: the text spells a program without a broken rule, and on each input the image's run follows the
--- program's.
+-- When an image agrees with a text: the text spells a program that breaks no rule, and on each input the image's run follows the program's.
 use Rattle.std.specs.Prelude.{ℕ, List}
 use Rattle.cc_rv32.specs.declared.image.Image.{Image}
 use Rattle.cc_rv32.specs.declared.outcome.MachineOutcome.{MachineOutcome}
@@ -15,7 +14,7 @@ use Rattle.cc_c_semantics.specs.declared.mode.Mode.{Mode}
 use Rattle.cc_c_semantics.specs.Numbered.{without_cause}
 use Rattle.cc_simulation.specs.Behavior.{AreWords, Stop, Going, Ended, Wrong, Outcome, Follows}
 
--- the outcome of a run of the machine: an exit ends it with a word, and a trap is a run that went wrong
+-- how a run of the machine stops: an exit ends the run with a word, and a trap is a run that went wrong
 abbrev pub stop_of : MachineOutcome → Stop ℕ
 stop_of machine.Going = Going
 stop_of (machine.Exited w) = Ended w
@@ -32,27 +31,25 @@ image_behavior image input m = shown (machine_behavior image input m)
 abbrev pub program_behavior : Source → (input : List ℕ) → ℕ → Outcome ℕ
 program_behavior source input n = without_cause (source_behavior source input n)
 
--- the tree of the text, and that the image's run follows its run
+-- the text spells `tree`, and the image's run follows the run of this program
 pub record Agreement (text : List ℕ) (image : Image) : Type 0 where
   pub tree : List External
   pub spelled : SpellsText text tree
   pub typed : IsTyped tree
   pub follows : (input : List ℕ) → AreWords input → Follows (program_behavior (source_with text tree) input) (image_behavior image input)
 
--- The text and the image agree. A typed unit keeps that its text spells its tree, but not in which way (∥ ∥₁), so no more than
--- that is kept here.
+-- The text and the image agree. A typed unit keeps that its text spells its tree, but not how (∥ ∥₁), so nothing more is kept here.
 abbrev pub Agree : List ℕ → Image → Type 0
 Agree text image = ∥ Agreement text image ∥₁
 
 -- ---- in a mode
 
--- what a program shows in a mode on an input, within a number of steps: a plain one shows what its source does, a checked one
--- `checked_behavior`
+-- what a program shows in a mode on an input within this many steps: what its source does, or `checked_behavior` in checked mode
 abbrev pub behavior_in : Mode → Source → (input : List ℕ) → ℕ → Outcome ℕ
 behavior_in mode source input n = without_cause (behavior mode source input n)
 
--- the tree of the text, and that the image's run follows what its program shows in the mode: in the checked mode that is owed
--- even if the source goes wrong, unless it goes wrong because of its depth
+-- the text spells `tree`, and the image's run follows what this program shows in the mode; in the checked mode it does so even if
+-- the source goes wrong, unless that is because of the source's depth
 pub record AgreementIn (mode : Mode) (text : List ℕ) (image : Image) : Type 0 where
   pub tree : List External
   pub spelled : SpellsText text tree

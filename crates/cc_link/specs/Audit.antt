@@ -18,11 +18,10 @@ use Rattle.cc_link.specs.declared.audit_answer.Audit.TheVariants.{Confirmed, NoC
 use Rattle.cc_link.specs.declared.audit_answer.FailedPart.{FailedPart}
 use Rattle.cc_link.specs.declared.audit_answer.FailedPart.TheVariants as part
 
--- The image agrees with the text. The certificate spells one function of LTL for each function of the text, and the run of each
--- keeps up with its function: so the certificate has an allocation that was shown to be right, and not just any LTL next to a
--- right image. And pieces that were compiled in the mode link to the three: the image is made of their items, the certificate of
--- their LTL, which keeps up because a piece's type says so. So the image follows what the program shows in the mode, on every
--- input.
+-- The image agrees with the text. The certificate spells one LTL function for each function of the text, and the run of each keeps up with
+-- its function. So the certificate has an allocation that was shown to be right, and not just any LTL next to a right image. Pieces that
+-- were compiled in the mode link to this text, certificate and image: the image is made of their items, and the certificate of their LTL,
+-- which keeps up because a piece's type says so. So the image follows what the program shows in the mode, on every input.
 pub record IsConfirmedIn (mode : Mode) (text certificate : List ℕ) (image : Image) : Type 0 where
   pub tree : List External
   pub spelled : ∥ SpellsText text tree ∥₁
@@ -32,21 +31,20 @@ pub record IsConfirmedIn (mode : Mode) (text certificate : List ℕ) (image : Im
   pub keep_up : ∥ EachKeepsUpIn mode tree spells.ltls ∥₁
   pub made : IsMadeIn mode (record { source = text; image = image; certificate = Some certificate })
 
--- an audit reports that the certificate is missing exactly if it is, and confirms only what holds
+-- an audit reports a missing certificate exactly if there is no certificate, and confirms only what `IsConfirmedIn` says
 abbrev pub AuditSaysIn : Mode → (text : List ℕ) → (certificate : Option (List ℕ)) → Image → Audit → Type 0
 AuditSaysIn mode text None image audit = audit ≡ NoCertificate
 AuditSaysIn mode text (Some certificate) image Confirmed = IsConfirmedIn mode text certificate image
 AuditSaysIn mode text (Some certificate) image Unconfirmed = Unit {0}
 AuditSaysIn mode text (Some certificate) image NoCertificate = ⊥
 
--- for plain images
+-- what an audit says about a plain image
 abbrev pub AuditSays : (text : List ℕ) → (certificate : Option (List ℕ)) → Image → Audit → Type 0
 AuditSays text certificate image audit = AuditSaysIn Plain text certificate image audit
 
 -- ---- which part is not confirmed
 
--- the text is a program's; the name of one of its functions begins at this offset and has this many bytes, and each function before it has a
--- piece
+-- the text is a program with a function whose name begins at this offset and has this many bytes; each function before it has a piece
 pub record IsFunctionAt (mode : Mode) (text : List ℕ) (at count : ℕ) : Type 0 where
   pub tree : List External
   pub is : IsProgramText text tree
@@ -68,8 +66,8 @@ pub record HasOtherImage (mode : Mode) (text certificate : List ℕ) (image : Im
   pub along : made.unit.certificate ≡ Some certificate
   pub other : ¬ (made.unit.image ≡ image)
 
--- The part that is named is one that fails: `parse` or `check` refuses the text with this fault (40 is never named); the function
--- is one of the program; another certificate is made from the text; or another image is made from it, or one that is too large.
+-- The part that is named is one that fails: `parse` or `check` refuses the text with this fault (40 is never named); the program
+-- defines the function; compiling the text makes another certificate; or it makes another image, or one that is too large.
 abbrev pub IsFailedPartIn : Mode → (text certificate : List ℕ) → Image → FailedPart → Type 0
 IsFailedPartIn mode text certificate image (part.Text fault) = IsTextRefusal text fault × ¬ (text_fault_number fault ≡ 40)
 IsFailedPartIn mode text certificate image (part.Function at count) = IsFunctionAt mode text at count

@@ -8,15 +8,15 @@ use Rattle.cc_ast.specs.Tree.{External}
 use Rattle.cc_linear_language.specs.Pair.{LtlKeepsUp}
 use Rattle.cc_c_semantics.specs.declared.mode.Mode.{Mode}
 
--- how many bytes the LTL of a function takes, and then these bytes
+-- how many bytes the LTL of a function has, and then these bytes
 abbrev pub ltl_field : Ltl → List ℕ
 ltl_field ltl = word_bytes (length (ltl_bytes ltl)) ++ ltl_bytes ltl
 
--- how many functions there are, and the field of each
+-- the number of functions, and then the field of each function
 abbrev pub certificate_of : List Ltl → List ℕ
 certificate_of ltls = word_bytes (length ltls) ++ flat_map ltl_field ltls
 
--- a function of LTL whose length four bytes can state
+-- an LTL function whose length fits in four bytes
 abbrev pub IsToldLtl : Ltl → Type 0
 IsToldLtl ltl = IsLtl ltl × (length (ltl_bytes ltl) < 2 ^ 32)
 
@@ -28,6 +28,6 @@ pub record SpellsAll (bytes : List ℕ) (functions : ℕ) : Type 0 where
   pub told : AllByRecursion IsToldLtl ltls
   pub spelled : bytes ≡ certificate_of ltls
 
--- the run of each of these functions of LTL keeps up with the function of the unit that has its number
+-- the run of each of these LTL functions keeps up with the unit's function of the same number
 abbrev pub EachKeepsUpIn : Mode → List External → List Ltl → Type 0
 EachKeepsUpIn mode unit ltls = (f : ℕ) (ltl : Ltl) → slice_get ltls f ≡ Some ltl → LtlKeepsUp mode unit f ltl

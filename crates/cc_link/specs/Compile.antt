@@ -54,15 +54,15 @@ IsPieceRefusal unit f fault = IsPieceRefusalIn Plain unit f fault
 
 -- ---- why a text has no image
 
--- the text is a program's, and the fault names this function of that program: 22 names one of more than 256 tokens (177 for a
--- checked piece), 24 may name any; whether the function has a piece is not stated
+-- the text is a program, and the fault names this function of the program: 22 names a function of more than 256 tokens (177 for
+-- a checked piece), 24 may name any function; whether it has a piece is not stated
 pub record IsBlamedIn (mode : Mode) (text : List ℕ) (function : ℕ) (fault : PieceFault) : Type 0 where
   pub tree : List External
   pub is : IsProgramText text tree
   pub defined : function < length (functions tree)
   pub refused : IsPieceRefusalIn mode tree function fault
 
--- this function of the text has a piece in the mode, with what its type and that of its unit keep
+-- this function of the text has a piece in the mode, with what the piece's type and its unit's type keep
 pub record HasPieceIn (mode : Mode) (text : List ℕ) (function : ℕ) : Type 0 where
   pub piece : emit.Piece
   pub compiled : IsCompiled piece
@@ -70,15 +70,15 @@ pub record HasPieceIn (mode : Mode) (text : List ℕ) (function : ℕ) : Type 0 
   pub text_is : (source piece.unit).text ≡ text
   pub function_is : piece.function ≡ function
 
--- the text is a program's; the fault names one of its functions, and each function before it, in the order of their definitions, has a piece
+-- the text is a program; the fault names one of its functions, and each function defined before that one has a piece
 pub record IsFirstWithoutIn (mode : Mode) (text : List ℕ) (fault : PieceFault) : Type 0 where
   pub function : ℕ
   pub none : IsBlamedIn mode text function fault
   pub earlier : (f : ℕ) → f < function → HasPieceIn mode text f
 
--- One piece for each function of a program, in their order, with what their types keep; together they make an image that is too
--- large. Who made the pieces is not stated, and one may be longer than what is emitted for its function. So only tests show that
--- 25 comes for large programs only.
+-- There is one piece for each function of a program, in order, with what their types keep, and together they make an image that
+-- is too large. Who made the pieces is not stated, and a piece may be longer than what is emitted for its function. So only
+-- tests show that 25 comes for large programs only.
 pub record IsTooLargeIn (mode : Mode) (text : List ℕ) : Type 0 where
   pub tree : List External
   pub is : IsProgramText text tree
@@ -88,8 +88,8 @@ pub record IsTooLargeIn (mode : Mode) (text : List ℕ) : Type 0 where
   pub count : length pieces ≡ length (functions tree)
   pub refused : linked_in mode (source_with text tree) pieces ≡ Err link.ImageTooLarge
 
--- A text that is no program's is refused as such. Only a program has another fault: that of the first function without a piece;
--- or 25, the only one of linking's refusals, if the pieces of all functions are refused with it.
+-- A text that is not a program is refused as such. A program is refused with the fault of its first function without a piece, or
+-- with 25, the only refusal of linking here, if the pieces of all functions are refused with 25.
 abbrev pub IsBuildRefusalIn : Mode → List ℕ → BuildFault → Type 0
 IsBuildRefusalIn mode text (Text f) = IsTextRefusal text f
 IsBuildRefusalIn mode text (Piece f) = IsFirstWithoutIn mode text f

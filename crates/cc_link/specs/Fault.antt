@@ -3,7 +3,7 @@ use Rattle.std.specs.Prelude.{ℕ}
 use Rattle.cc_link.specs.declared.fault.LinkFault.{LinkFault}
 use Rattle.cc_link.specs.declared.fault.LinkFault.TheVariants as link
 
--- the number that a fault is known by
+-- the number of a fault of linking
 abbrev pub link_fault_number : LinkFault → ℕ
 link_fault_number link.ImageTooLarge = 25
 link_fault_number (link.Missing function) = 26

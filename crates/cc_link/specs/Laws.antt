@@ -1,4 +1,4 @@
--- What linking promises just by its definitions. Each law here is the contract of a function of this crate.
+-- What linking promises by its definitions alone. Each law here is the contract of a function of this crate.
 use Rattle.std.specs.Prelude.{◌≡◌, ℕ, List, All, Some, Ok, length}
 use Rattle.cc_ast.specs.Tree.{External, Source}
 use Rattle.cc_ast.specs.Parse.{SpellsText}
@@ -14,13 +14,13 @@ use Rattle.cc_link.specs.Linked.{linked, linked_in}
 use Rattle.cc_link.specs.Made.{IsMadeIn}
 use Rattle.cc_rv32.specs.declared.image.Image.{Image}
 
--- the unit that pieces make for a checked unit has its text, and its image agrees with it
+-- the unit that pieces make for a checked unit has the checked unit's text, and its image agrees with this text
 abbrev pub LinkedUnitsAgree : Type 0
 LinkedUnitsAgree = (s : Source) (pieces : List Piece) (u : StoredUnit) → ∥ SpellsText s.text s.externals ∥₁ → IsChecked s → All IsPieceOfUnit pieces → linked s pieces ≡ Ok u
     → (u.source ≡ s.text) × Agree s.text u.image
 
--- In each mode: the unit that pieces make for a checked unit in the mode has its text, and on each input the run of its image
--- follows what its program shows in the mode. For checked pieces that is `checked_behavior`.
+-- In each mode: the unit that pieces make for a checked unit in the mode has the checked unit's text, and on each input the run
+-- of its image follows what the program shows in the mode. For checked pieces, the program shows `checked_behavior`.
 abbrev pub LinkedUnitsFollow : Type 0
 LinkedUnitsFollow = (mode : Mode) (s : Source) (pieces : List Piece) (u : StoredUnit) → ∥ SpellsText s.text s.externals ∥₁ → IsChecked s → All IsPieceOfUnit pieces → linked_in mode s pieces ≡ Ok u
     → (u.source ≡ s.text) × AgreeIn mode s.text u.image
@@ -29,8 +29,7 @@ LinkedUnitsFollow = (mode : Mode) (s : Source) (pieces : List Piece) (u : Stored
 abbrev pub AgreeInAgree : Type 0
 AgreeInAgree = (mode : Mode) (text : List ℕ) (image : Image) → AgreeIn mode text image → Agree text image
 
--- the certificate of a unit that was made spells a function of LTL for each function of the unit's text, and the run of that LTL
--- keeps up with the function
+-- the certificate spells an LTL function for each function of the unit's text, whose run keeps up with that function
 pub record IsCertifiedIn (mode : Mode) (u : StoredUnit) : Type 0 where
   pub tree : List External
   pub spelled : ∥ SpellsText u.source tree ∥₁

@@ -1,4 +1,4 @@
--- which text is a program's, and why another is not
+-- which texts are programs, and why the others are not
 pub mod Text
 -- when an image agrees with a text
 pub mod Agree
@@ -10,15 +10,15 @@ pub mod Packed
 pub mod Certificate
 -- why pieces are refused, and otherwise the unit that they make
 pub mod Linked
--- how much stack an image takes, and that it agrees on a board that backs this much
+-- how much stack an image takes, and that it follows its program on a board that backs this much
 pub mod Stack
--- that the unit agrees with its text
+-- the unit that pieces make agrees with its text
 pub mod Laws
 -- which text and which functions some pieces belong to
 pub mod Pieces
 -- what a compiled unit was made of
 pub mod Made
--- what a text was compiled to, with what it was made of
+-- what a text was compiled to, with the tree and the pieces that it was made of
 pub mod Whole
 -- what an audit says
 pub mod Audit

@@ -1,6 +1,6 @@
--- The image that pieces make. Its code is the head, which calls main and exits with its word, and after it the functions in the
--- order of their definitions; each item is filled in at its address. Its globals are the objects in the order of declaration,
--- each in words of its own (`Packed`).
+-- The image that pieces make. Its code is the head, which calls main and exits with the word that main returns, followed by the
+-- functions in the order of their definitions; each item is filled in at its address. Its globals are the objects in the order
+-- of declaration, each in words of its own (`Packed`).
 use Rattle.std.specs.Prelude.{ℕ, ◌+◌, ◌*◌, List, [], ◌∷◌, ◌++◌, length, take, map}
 use Rattle.cc_rv32.specs.declared.instr.Instr.{Instr}
 use Rattle.cc_rv32.specs.declared.instr.Instr.TheVariants.{OpImm, Ecall}
@@ -21,16 +21,16 @@ abbrev pub fill_all : (places : ℕ → ℕ) → (a : ℕ) → List (List PieceI
 fill_all places a [] = []
 fill_all places a (f ∷ fs) = fill places a a f ++ fill_all places (a + 4 * length f) fs
 
--- how many items the functions have in all
+-- the number of items in all the functions together
 abbrev pub size_of : List (List PieceItem) → ℕ
 size_of [] = 0
 size_of (f ∷ fs) = length f + size_of fs
 
--- the service that ends a run with the word of x10, given by the number that x17 has at an ecall
+-- the number that x17 has at an ecall that ends the run with the word in x10
 abbrev pub exit_service : ℕ
 exit_service = 93
 
--- main is called, and the run exits with its word
+-- the items that call main and exit with the word that it returns
 abbrev pub head : (main : ℕ) → List PieceItem
 head main = Call main ∷ Plain (OpImm Addi 17 0 exit_service) ∷ Plain Ecall ∷ []
 
@@ -46,7 +46,7 @@ linked_code main functions = fill (place_of functions) code_from code_from (head
 abbrev pub encoded : List Instr → List ℕ
 encoded is = map encoding_of is
 
--- how many words the code has, and how many it may have
+-- how many words the code has, and how many it may have at most
 abbrev pub code_words : List (List PieceItem) → ℕ
 code_words functions = 3 + size_of functions
 

@@ -27,31 +27,31 @@ lent_pieces pieces = map (λ (p : Bor Piece). p.now) pieces
 
 -- ---- why pieces are refused; a place in the list of pieces counts from 0
 
--- byte for byte the same
+-- the two lists are the same byte for byte
 abbrev pub same_bytes : List ℕ → List ℕ → Bool
 same_bytes x y = pointwise nat_eq x y
 
--- the same mode
+-- the two modes are the same
 abbrev pub same_mode : Mode → Mode → Bool
 same_mode Plain Plain = true
 same_mode Checked Checked = true
 same_mode a b = false
 
--- a piece in this mode, of a unit of this text
+-- the piece is in this mode and of a unit with this text
 abbrev pub is_own : Mode → (text : List ℕ) → Piece → Bool
 is_own mode text p = if same_mode p.mode mode then same_bytes (source p.unit).text text else false
 
--- 28: the first piece of a unit of another text, or in another mode; the first piece of the list has the place `at`
+-- 28 for the first piece in another mode, or of a unit with another text; the first piece of the list has the place `at`
 abbrev pub stranger : Mode → (text : List ℕ) (at : ℕ) → List Piece → Option LinkFault
 stranger mode text at [] = None
 stranger mode text at (p ∷ ps) = if is_own mode text p then stranger mode text (suc at) ps else Some (Stranger p.function at)
 
--- the number is one of these
+-- the number is in the list
 abbrev pub is_among : List ℕ → ℕ → Bool
 is_among [] f = false
 is_among (g ∷ gs) f = (g == f) || is_among gs f
 
--- 27: the first piece whose function came before; pieces of the functions `before` came before the first one of the list
+-- 27 for the first piece whose function came before; pieces of the functions `before` precede the list
 abbrev pub doubled : (before : List ℕ) (at : ℕ) → List Piece → Option LinkFault
 doubled before at [] = None
 doubled before at (p ∷ ps) = if is_among before p.function then Some (Doubled p.function at) else doubled (before ++ p.function ∷ []) (suc at) ps
@@ -61,12 +61,12 @@ abbrev pub piece_of : List Piece → (function : ℕ) → Option Piece
 piece_of [] f = None
 piece_of (p ∷ ps) f = if p.function == f then Some p else piece_of ps f
 
--- 26: the least function without a piece, among the `count` functions from `from` on
+-- 26 for the lowest-numbered function without a piece, among the `count` functions from `from` on
 abbrev pub missing : List Piece → (from count : ℕ) → Option LinkFault
 missing pieces from zero = None
 missing pieces from (suc count) = if is_some (piece_of pieces from) then missing pieces (suc from) count else Some (Missing from)
 
--- the piece, if there is one, put before the others
+-- the other pieces, with this piece before them if there is one
 abbrev pub put_first : Option Piece → List Piece → List Piece
 put_first None ps = ps
 put_first (Some p) ps = p ∷ ps
@@ -80,7 +80,7 @@ in_order pieces from (suc count) = put_first (piece_of pieces from) (in_order pi
 abbrev pub ordered : List External → List Piece → List Piece
 ordered unit pieces = in_order pieces 0 (length (functions unit))
 
--- the items of pieces, and their LTL
+-- the items of each piece, and the LTL of each piece
 abbrev pub all_items : List Piece → List (List PieceItem)
 all_items pieces = map (λ (p : Piece). p.items) pieces
 
@@ -91,11 +91,11 @@ all_ltl pieces = map (λ (p : Piece). p.ltl) pieces
 abbrev pub bodies : List External → List Piece → List (List PieceItem)
 bodies unit pieces = all_items (ordered unit pieces)
 
--- 25: the code would have too many words
+-- 25 if the code would have too many words
 abbrev pub too_large : List (List PieceItem) → Option LinkFault
 too_large fs = if nat_lt most_code (code_words fs) then Some ImageTooLarge else None
 
--- why pieces do not make an image of a unit: 28, or else 27, or else 26, or else 25
+-- why pieces do not make an image of a unit: 28, else 27, else 26, else 25
 abbrev pub link_refusal : Mode → Source → List Piece → Option LinkFault
 link_refusal mode s pieces =
     option_or (stranger mode s.text 0 pieces) (option_or (doubled [] 0 pieces)
@@ -103,7 +103,7 @@ link_refusal mode s pieces =
 
 -- ---- what the pieces make
 
--- the image: its code, and the words of the objects one after the other, with four bytes in each
+-- the image: its code, and the words of the objects one after the other
 abbrev pub image_of : List External → List (List PieceItem) → Image
 image_of unit fs = record { code = encoded (linked_code (main_of unit) fs); globals = image_words (objects unit) }
 
@@ -115,7 +115,7 @@ certified unit pieces = certificate_of (all_ltl (ordered unit pieces))
 abbrev pub unit_of : Source → List Piece → StoredUnit
 unit_of s pieces = record { source = s.text; image = image_of s.externals (bodies s.externals pieces); certificate = Some (certified s.externals pieces) }
 
--- the unit, if nothing is refused
+-- the refusal if there is one, else the unit
 abbrev pub unless_refused : Option LinkFault → StoredUnit → Result StoredUnit LinkFault
 unless_refused None u = Ok u
 unless_refused (Some fault) u = Err fault

@@ -9,13 +9,13 @@ use Rattle.cc_unit.specs.declared.unit.StoredUnit.{StoredUnit}
 use Rattle.cc_emit.specs.Piece.{Piece, IsPieceOfUnit}
 use Rattle.cc_link.specs.Linked.{linked_in}
 
--- what the types of a piece and of its unit keep
+-- the piece has what its type and its unit's type keep
 pub record IsCompiled (piece : Piece) : Type 0 where
   pub spelled : ∥ SpellsText (source piece.unit).text (source piece.unit).externals ∥₁
   pub checked : IsChecked (source piece.unit)
   pub of_unit : IsPieceOfUnit piece
 
--- pieces that some calls have made in this mode, in any order, link to this unit
+-- pieces that were compiled in this mode link to this unit, in some order
 pub record IsMadeIn (mode : Mode) (unit : StoredUnit) : Type 0 where
   pub of : Source
   pub spelled : ∥ SpellsText of.text of.externals ∥₁

@@ -1,4 +1,4 @@
--- How much stack an image takes: each function's frame, and what the functions that it calls take, as deep as calls may go.
+-- How much stack an image takes: each function's frame and the stack of its callees, as deep as calls may go.
 use Rattle.std.specs.Prelude.{◌≡◌, ℕ, zero, suc, ◌+◌, ◌-◌, ◌≤◌, nat_le, if◌then◌else◌, All, List, [], ◌∷◌, get_or, map, Ok}
 use Rattle.cc_ast.specs.Tree.{External, Source}
 use Rattle.cc_ast.specs.Parse.{SpellsText}
@@ -29,7 +29,7 @@ most_called n (Plain i ∷ items) = most_called n items
 most_called n (Call g ∷ items) = larger (n g) (most_called n items)
 most_called n (Go k ∷ items) = most_called n items
 
--- how many bytes of stack a call of function f takes, if this many calls may be open, including that one
+-- how many bytes of stack a call of function f takes, if `calls` calls may be open, including this one
 unfoldable pub need : (frames : List ℕ) (bodies : List (List PieceItem)) → (calls f : ℕ) → ℕ
 need frames bodies zero f = 0
 need frames bodies (suc calls) f = get_or frames f 0 + most_called (need frames bodies calls) (get_or bodies f [])
@@ -53,11 +53,11 @@ pub record BackedAgreement (mode : Mode) (text : List ℕ) (bytes : ℕ) (image 
   pub typed : IsTyped tree
   pub follows : (input : List ℕ) → AreWords input → Follows (behavior_in mode (source_with text tree) input) (backed_image_behavior bytes image input)
 
--- the image follows its program in this way on each board that backs at least this many bytes of stack
+-- the image follows its program on each board that backs at least `least` bytes of stack
 abbrev pub IsBackedFrom : Mode → (text : List ℕ) (least : ℕ) → Image → Type 0
 IsBackedFrom mode text least image = (bytes : ℕ) → least ≤ bytes → bytes ≤ stack_to - stack_from → ∥ BackedAgreement mode text bytes image ∥₁
 
--- in each mode the image that pieces make follows its program on each board with at least the stack that it takes
+-- in each mode the image that pieces make follows its program on each board with at least the stack that the image takes
 abbrev pub LinkedUnitsAreBacked : Type 0
 LinkedUnitsAreBacked = (mode : Mode) (s : Source) (pieces : List Piece) (u : StoredUnit) → ∥ SpellsText s.text s.externals ∥₁ → IsChecked s → All IsPieceOfUnit pieces → linked_in mode s pieces ≡ Ok u
     → IsBackedFrom mode s.text (stack_of s.externals pieces) u.image

@@ -1,4 +1,4 @@
--- Which text is a program's, and why another is not.
+-- Which texts are programs, and why the others are not.
 use Rattle.std.specs.Prelude.{◌≡◌, ◌≤◌, ℕ, ◌⊎◌, List, length, Option}
 use Rattle.cc_tokens.specs.declared.place.Place.{Place}
 use Rattle.cc_tokens.specs.Fault as tokens
@@ -25,20 +25,20 @@ text_fault_place (Typing f) = typed.fault_place f
 
 -- ---- a program's text
 
--- the tree of a text, which breaks no rule and exceeds no limit
+-- the text spells this tree, which breaks no rule and exceeds no limit
 pub record IsProgramText (text : List ℕ) (tree : List External) : Type 0 where
   pub spelled : SpellsText text tree
   pub typed : IsTyped tree
   pub limits : IsWithinLimits tree
 
--- the text spells a tree that is refused
+-- the text spells a tree that `check` refuses with this fault
 pub record IsRefusedTree (text : List ℕ) (fault : TypeFault) : Type 0 where
   pub tree : List External
   pub fits : length text ≤ most_bytes
   pub spelled : SpellsText text tree
   pub refused : IsTypeRefusal (source_with text tree) fault
 
--- why a text is no program's: 1 to 7 and 11 to 21 exactly as `parse` and then `check` refuse it, apart from 40
+-- why a text is not a program: 1 to 7 and 11 to 21 exactly as `parse`, then `check` refuse it, apart from 40
 abbrev pub IsTextRefusal : List ℕ → TextFault → Type 0
 IsTextRefusal text (Syntax f) = IsParseRefusal text f
 IsTextRefusal text (Typing f) = (f ≡ typing.OutOfMemory) ⊎ IsRefusedTree text f

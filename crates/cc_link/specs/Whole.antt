@@ -10,8 +10,8 @@ use Rattle.cc_link.specs.Stack.{IsBackedFrom, stack_of}
 use Rattle.cc_link.specs.Text.{IsProgramText}
 use Rattle.cc_link.specs.declared.compiled.Compilation.{Compilation}
 
--- The tree is that of the text, which is a program's. Pieces that were compiled link to the unit, so on every input the run of its image
--- follows what the program shows in the mode, also on a board that backs no more stack than the pieces take.
+-- The text is a program and spells this tree. Compiled pieces link to the unit, so on every input the run of its image follows what the
+-- program shows in the mode, even on a board that backs only as much stack as the pieces take.
 pub record IsWholeIn (mode : Mode) (text : List ℕ) (c : Compilation) : Type 0 where
   pub text_is : (source (arc_value c.typed)).text ≡ text
   pub program : IsProgramText text (source (arc_value c.typed)).externals

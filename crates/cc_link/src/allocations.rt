@@ -1,4 +1,4 @@
-// The origin of the allocations of a unit's functions, in the order of definitions.
+// Where the allocations of a unit's functions come from, in the order of definitions.
 
 use crate::certificate::{first_ltl, number_at};
 use crate::watching::Allocation;
@@ -8,14 +8,14 @@ use std::alloc::{AllocError, Global};
 /// The allocations of a function and of the functions after it.
 #[derive(Clone, Copy)]
 pub(crate) enum Allocations<'a> {
-    /// Each allocation is chosen.
+    /// Each allocation is chosen by the compiler.
     Chosen,
-    /// These bytes of a certificate spell them.
+    /// These bytes of a certificate spell the allocations.
     Spelled(&'a [u8]),
 }
 
 impl<'a> Allocations<'a> {
-    /// The allocations that a certificate spells, whatever number it begins with.
+    /// The allocations that a certificate spells after its first number, which is ignored.
     pub(crate) fn of(certificate: &'a [u8]) -> Allocations<'a> {
         match number_at(certificate) {
             Some((_, rest)) => Allocations::Spelled(rest),
@@ -23,7 +23,7 @@ impl<'a> Allocations<'a> {
         }
     }
 
-    /// The allocation of the first function; none if the bytes spell none.
+    /// The allocation of the first function, or `None` if the bytes do not spell one.
     pub(crate) fn first(self, alloc: Global) -> Result<Option<Allocation>, AllocError> {
         match self {
             Allocations::Chosen => Ok(Some(Allocation::Chosen)),
@@ -46,7 +46,7 @@ impl<'a> Allocations<'a> {
     }
 }
 
-// The allocation that bytes spell; none if they spell no LTL.
+// The allocation that bytes spell, or `None` if they do not spell LTL.
 fn spelled(alloc: Global, bytes: &[u8]) -> Result<Option<Allocation>, AllocError> {
     match read_ltl(alloc, bytes) {
         Ok(ltl) => Ok(Some(Allocation::Given(ltl))),

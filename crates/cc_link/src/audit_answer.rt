@@ -5,7 +5,7 @@ use crate::text::TextFault;
 /// What an audit says.
 #[derive(Clone, Copy)]
 pub enum Audit {
-    /// The image agrees with the text, and the certificate has, for each function, the allocation by which that was shown.
+    /// The image agrees with the text, and the certificate has, for each function, the allocation by which this was shown.
     Confirmed,
     /// There is no certificate.
     NoCertificate,
@@ -16,13 +16,13 @@ pub enum Audit {
 /// The first part of a stored unit, in this order, that is not what this compiler makes.
 #[derive(Debug, Drop)]
 pub enum FailedPart {
-    /// The text: it is no program's.
+    /// The text, which is not a program.
     Text(TextFault),
-    /// A function's certificate: it is missing or damaged, or does not show that the function has such code. The function's name begins in
-    /// the text at the offset `at` and has `length` bytes.
+    /// A function's part of the certificate, which is missing or damaged, or does not show that code made with it does what the function
+    /// does. The function's name begins in the text at the offset `at` and has `length` bytes.
     Function { at: usize, length: usize },
-    /// The certificate as a whole: it has another number of functions, or bytes that are left over.
+    /// The certificate as a whole, which has another number of functions, or bytes that are left over.
     Certificate,
-    /// The image: compiling with the certificate makes another one, or one that is too large.
+    /// The image: compiling with the certificate's allocations makes another one, or one that is too large.
     Image,
 }

@@ -1,9 +1,9 @@
 // Whether a stored unit is what this compiler makes from its text with its certificate: the text is compiled again, with the
 // allocations that are read from the certificate.
 //
-// Nothing is believed about the three parts. The unit is made anew from the text and the functions of LTL that are read, and is
-// then compared with the stored one. Since a function of LTL has only one spelling, no byte of the certificate can be left over
-// or differ. The type of a unit that was made keeps what is right about it.
+// Nothing is assumed about the text, the certificate and the image. The unit is made anew from the text and the LTL functions
+// that are read, and is then compared with the stored one. Since an LTL function has only one spelling, no byte of the
+// certificate can be left over or differ. What an audit confirms is what the type of the unit made anew keeps.
 
 ghost use Rattle.std.specs.Prelude.{◌≡◌, ◌↔◌, ℕ, List, Some, MatchOption, IfOk, IfErr, IfSome, IsTrue};
 ghost use Rattle.std.specs.Option.{option_map};
@@ -26,7 +26,7 @@ use cc_rv32::image::Image;
 use cc_unit::StoredUnit;
 use std::alloc::{AllocError, Global};
 
-/// Audits a plain unit: whether its certificate shows that its image agrees with its source. It answers what `audit_in` does.
+/// Audits a plain unit: whether its certificate shows that its image agrees with its source. It answers as `audit_in` does.
 pub fn audit(
     alloc: Global,
     source: &[u8],
@@ -39,10 +39,10 @@ pub fn audit(
 }
 
 /// Audits a unit in a mode: whether its certificate shows that its image follows what the program of its source shows in the
-/// mode. Nothing is believed about these three parts, whoever made them.
+/// mode. Nothing is assumed about the three, whoever made them.
 ///
-/// `NoCertificate` exactly if there is none. `Confirmed` only if the image follows the program in this way, and the certificate
-/// spells the LTL of each of its functions; else `Unconfirmed`. It fails only if memory ran out (40).
+/// `NoCertificate` exactly if there is no certificate. `Confirmed` only if the image follows the program in this way and the
+/// certificate spells the LTL of each of the program's functions; otherwise `Unconfirmed`. It fails only if memory ran out (40).
 pub fn audit_in(
     alloc: Global,
     mode: Mode,
@@ -61,8 +61,8 @@ pub fn audit_in(
     }
 }
 
-/// Why `audit_in` does not confirm a unit that has a certificate: the first part of it that fails; none if the unit is confirmed.
-/// It fails only if memory ran out (40).
+/// Why `audit_in` does not confirm a unit that has a certificate: the first part of the unit that fails, or `None` if the unit is
+/// confirmed. It fails only if memory ran out (40).
 pub fn failed_part_in(
     alloc: Global,
     mode: Mode,
@@ -83,8 +83,8 @@ pub fn failed_part_in(
     }
 }
 
-/// What a text compiles to in a mode with the allocations of a certificate, with the pieces, if that is the unit of these three
-/// parts, which it is exactly if `audit_in` confirms it. It fails only if memory ran out.
+/// What a text compiles to in a mode with the allocations of a certificate, together with its pieces, if the unit has this
+/// certificate and this image; this is so exactly if `audit_in` confirms them. It fails only if memory ran out.
 pub fn compile_along_in(
     alloc: Global,
     mode: Mode,
@@ -101,8 +101,8 @@ pub fn compile_along_in(
     }
 }
 
-// What a text compiles to in a mode with the allocations of a certificate, if that is the unit of these three parts; else the
-// first part that fails.
+// What a text compiles to in a mode with the allocations of a certificate, if the unit has this certificate and this image; else
+// the first part that fails.
 fn made_along(
     alloc: Global,
     mode: Mode,

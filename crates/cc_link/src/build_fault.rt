@@ -9,10 +9,10 @@ use crate::text::TextFault;
 use cc_syntax::Place;
 use thiserror::Error;
 
-/// Why a text has no image: the faults of the stages, in their order.
+/// Why a text has no image: the faults of the stages, in order.
 #[derive(Debug, Drop, Error)]
 pub enum BuildFault {
-    /// 1 to 7, 11 to 21, 40: the text is no program's.
+    /// 1 to 7, 11 to 21, 40: the text is not a program.
     #[error(transparent)]
     Text(TextFault),
     /// 22, 24, 40: a function has no piece.

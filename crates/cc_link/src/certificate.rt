@@ -1,5 +1,5 @@
-// The certificate of a unit: how many functions it has, then for each the length of its LTL and the LTL. Here it is written, and taken
-// apart.
+// Writes and takes apart the certificate of a unit: how many functions the unit has, then for each function the length of its LTL and
+// the LTL.
 
 ghost use Rattle.std.specs.Prelude.{◌≡◌, ◌≤◌, ◌<◌, ◌^◌, ◌++◌, length, IfOk, OnOk};
 ghost use Rattle.cc_ltl.specs.Ltl.{IsLtl};
@@ -36,7 +36,7 @@ fn add_ltl(alloc: Global, bytes: &mut Vec<u8>, ltl: &Ltl) -> Result<(), AllocErr
     bytes.extend_from_slice(written.as_slice())
 }
 
-/// The bytes of the first LTL, and those after it; none if its length or a part of it is missing.
+/// The bytes of the first LTL function, and the bytes after it, or `None` if its length or a part of it is missing.
 pub(crate) fn first_ltl(bytes: &[u8]) -> Option<(&[u8], &[u8])> {
     let (count, rest) = number_at(bytes)?;
     let count = count as usize;
@@ -46,7 +46,7 @@ pub(crate) fn first_ltl(bytes: &[u8]) -> Option<(&[u8], &[u8])> {
     Some((&rest[..count], &rest[count..]))
 }
 
-/// The number that the first four bytes spell, and the bytes after them; none if there are fewer.
+/// The number that the first four bytes spell, and the bytes after them, or `None` if there are fewer than four.
 pub(crate) fn number_at(bytes: &[u8]) -> Option<(u32, &[u8])> {
     match bytes {
         [a, b, c, d, rest @ ..] => Some((u32::from_le_bytes([*a, *b, *c, *d]), rest)),

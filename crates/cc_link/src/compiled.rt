@@ -12,13 +12,13 @@ use std::marker::Model;
 use std::sync::Arc;
 
 /// A unit whose image agrees with its source: the source spells a program, and on every input the image's run follows the
-/// program's. The type keeps that, and that pieces which were compiled link to it, so every value of this type is such a unit.
+/// program's. The type keeps this, and also that compiled pieces link to the unit, so it is true of every value of the type.
 /// Contracts see the unit as it is stored.
 pub struct CompiledUnit {
     stored: Arc<StoredUnit>,
 }
 
-// Written by hand, so that crates above call it and need not prove again how each part is dropped.
+// Written by hand, so that crates that use this one can call this `drop` and need not prove again how each part is dropped.
 impl Drop for CompiledUnit {
     fn drop(self) {
         let CompiledUnit { stored } = self;
@@ -58,7 +58,7 @@ impl CompiledUnit {
     }
 }
 
-/// What a text was compiled to, with what it was made of.
+/// What a text was compiled to, with the tree and the pieces that it was made of.
 pub struct Compilation {
     /// The tree of the text.
     pub typed: Arc<TypedUnit>,
@@ -68,7 +68,7 @@ pub struct Compilation {
     pub unit: CompiledUnit,
 }
 
-// Written by hand, for the same reason as that of `CompiledUnit`.
+// Written by hand for the same reason as the `Drop` of `CompiledUnit`.
 impl Drop for Compilation {
     fn drop(self) {
         let Compilation {
@@ -80,7 +80,7 @@ impl Drop for Compilation {
 }
 
 impl Compilation {
-    /// The unit, without what it was made of.
+    /// The unit, without the tree and the pieces.
     pub fn into_unit(self) -> CompiledUnit
         ensures { result ≡ self.unit }
     {

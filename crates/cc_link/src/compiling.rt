@@ -27,8 +27,8 @@ use cc_types::TypedUnit;
 use std::alloc::Global;
 use std::sync::Arc;
 
-/// The pieces of a unit's functions in a mode, in their order: what `compile_function_in` answers for each. The fault is that of
-/// the first function that has no piece.
+/// The pieces of a unit's functions in a mode, in order: what `compile_function_in` answers for each function. The fault is that
+/// of the first function that has no piece.
 pub fn compile_functions_in(
     alloc: Global,
     mode: Mode,
@@ -43,7 +43,7 @@ pub fn compile_functions_in(
     pieces_by(alloc, mode, unit, Allocations::Chosen)
 }
 
-// The pieces of a unit's functions in a mode, in their order, made with these allocations.
+// The pieces of a unit's functions in a mode, in order, made with these allocations.
 fn pieces_by(
     alloc: Global,
     mode: Mode,
@@ -74,7 +74,7 @@ fn pieces_by(
     Ok(pieces)
 }
 
-// A program with this tree, compiled in a mode with these allocations.
+// Compiles the program with this tree in a mode, with these allocations.
 fn compile_unit(
     alloc: Global,
     mode: Mode,
@@ -99,7 +99,7 @@ fn compile_unit(
     }
 }
 
-/// Compiles a text in a mode with these allocations, and returns the unit together with what it was made of. It answers what
+/// Compiles a text in a mode with these allocations, and returns the unit together with what it was made of. It answers as
 /// `compile_in` does.
 pub(crate) fn compile_by(
     alloc: Global,
@@ -116,7 +116,7 @@ pub(crate) fn compile_by(
     }
 }
 
-/// Compiles a text in a mode, and returns the unit together with what it was made of. It answers what `compile_in` does.
+/// Compiles a text in a mode, and returns the unit together with what it was made of. It answers as `compile_in` does.
 pub fn compile_whole_in(alloc: Global, mode: Mode, text: &[u8]) -> Result<Compilation, BuildFault>
     ensures whole { IfOk result (IsWholeIn mode text.now) }
     ensures refused { IfErr result (λ fault. IsBuildRefusalIn mode text.now fault) }
@@ -127,9 +127,9 @@ pub fn compile_whole_in(alloc: Global, mode: Mode, text: &[u8]) -> Result<Compil
 /// Compiles a text in a mode: its source is the text, its image agrees with it, and on every input the run of the image follows
 /// what the program shows in the mode.
 ///
-/// Refusals: 1 to 7 and 11 to 21 exactly as `typed_unit` has them; for a text without these, 22 or 24 for the first function that
-/// has one, with its name, if each function before it has a piece; 25 if `link_in` refuses the pieces with it; 40 if memory ran
-/// out.
+/// Refusals: 1 to 7 and 11 to 21 exactly as `typed_unit` has them; otherwise FunctionTooLarge (22) or Unvalidated (24) with the
+/// name of the first function that has no piece; ImageTooLarge (25) if `link_in` refuses the pieces with it; OutOfMemory (40) if
+/// memory ran out.
 pub fn compile_in(alloc: Global, mode: Mode, text: &[u8]) -> Result<CompiledUnit, BuildFault>
     ensures source { IfOk result (λ unit. unit.source ≡ text.now) }
     ensures agrees { IfOk result (λ unit. Agree text.now unit.image) }
@@ -145,7 +145,7 @@ pub fn compile_in(alloc: Global, mode: Mode, text: &[u8]) -> Result<CompiledUnit
     }
 }
 
-/// Compiles a text to a plain image: its source is the text, and its image agrees with it. It answers what `compile_in` does.
+/// Compiles a text to a plain image: its source is the text, and its image agrees with it. It answers as `compile_in` does.
 pub fn compile(alloc: Global, text: &[u8]) -> Result<CompiledUnit, BuildFault>
     ensures source { IfOk result (λ unit. unit.source ≡ text.now) }
     ensures agrees { IfOk result (λ unit. Agree text.now unit.image) }

@@ -17,7 +17,7 @@ pub enum LinkFault {
     /// 27: an earlier piece is of the same function as the piece at this place.
     #[error("Doubled")]
     Doubled { function: usize, at: usize },
-    /// 28: the piece at this place is of a unit with another text.
+    /// 28: the piece at this place is in another mode, or of a unit with another text.
     #[error("Stranger")]
     Stranger { function: usize, at: usize },
     /// 40: memory ran out.

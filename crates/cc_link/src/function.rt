@@ -19,7 +19,7 @@ use cc_validate::ValidateFault;
 use std::alloc::Global;
 use std::sync::Arc;
 
-// The offset at which a function's name begins in the text, and how many bytes it has.
+// The offset at which a function's name begins in the text, and the number of bytes in the name.
 fn name_of(unit: &TypedUnit, function: usize) -> (usize, usize)
     requires { function < length (defined_names (source unit.now)) }
     ensures { IsNameAt (source unit.now).externals function result.0 result.1 }
@@ -28,14 +28,14 @@ fn name_of(unit: &TypedUnit, function: usize) -> (usize, usize)
     (name.at, name.bytes.len())
 }
 
-/// The piece of the function with this number in a mode. It is made through Cminor (with guards in the checked mode), RTL,
+/// The piece of the function with this number in a mode. The function goes through Cminor (with guards in the checked mode), RTL,
 /// validated LTL, Linear and selected steps. `watch` sees each of them. Functions are numbered from 0 in the order of their
 /// definitions. The piece's type keeps that the code does what the function does in the mode, whatever the allocation and whoever
 /// watches.
 ///
-/// Refusals, the first two with the bytes of the function's name: 22 if it would have more than 4,096 nodes of RTL or its guards
-/// would set more than 2,048 variables, which needs more than 256 tokens, or 177 for a checked piece; 24 if the validator refuses
-/// the allocation; 40 if memory ran out, or `watch` refused.
+/// Refusals, the first two with the place of the function's name: FunctionTooLarge (22) if the function would have more than
+/// 4,096 nodes of RTL or its guards would set more than 2,048 variables, which takes more than 256 tokens (177 for a checked
+/// piece); Unvalidated (24) if the validator refuses the allocation; OutOfMemory (40) if memory ran out, or `watch` refused.
 pub fn compile_watched_in<W: Watch>(
     alloc: Global,
     mode: Mode,
@@ -71,9 +71,9 @@ pub fn compile_watched_in<W: Watch>(
     }
 }
 
-/// The piece of the function with this number in a mode, with the first of these allocations; nobody watches. It answers what
-/// `compile_watched_in` does, or 24 at label 0 if there is no allocation, since then nothing shows that the code does what the
-/// function does.
+/// The piece of the function with this number in a mode, with the first of these allocations; nobody watches. It answers as
+/// `compile_watched_in` does, or with 24 at label 0 if there is no allocation, since nothing then shows that the code does what
+/// the function does.
 pub(crate) fn compile_first_in(
     alloc: Global,
     mode: Mode,
@@ -105,8 +105,8 @@ pub(crate) fn compile_first_in(
     }
 }
 
-/// The piece of the function with this number in a mode, with values in registers, or with a slot for each value if the validator
-/// refuses that. Nobody watches. It answers what `compile_watched_in` does.
+/// The piece of the function with this number in a mode, with values in registers, or, if the validator refuses these, with a
+/// slot for each value. Nobody watches. It answers as `compile_watched_in` does.
 pub fn compile_function_in(
     alloc: Global,
     mode: Mode,
@@ -129,7 +129,7 @@ pub fn compile_function_in(
     )
 }
 
-/// The plain piece of the function with this number. It answers what `compile_function_in` does.
+/// The plain piece of the function with this number. It answers as `compile_function_in` does.
 pub fn compile_function(
     alloc: Global,
     unit: &Arc<TypedUnit>,

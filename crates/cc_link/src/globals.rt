@@ -11,7 +11,7 @@ use cc_syntax::{External, Object};
 use cc_words::Width;
 use std::alloc::{AllocError, Global};
 
-// The byte at `at`, or 0 past the last one.
+// The byte at `at`, or 0 past the last byte.
 #[tactic(auto, using(crate::proofs::Packing::byte_below))]
 fn byte_at(bytes: &[u32], at: usize) -> u32
     requires { AreBytes bytes.now }
@@ -21,7 +21,7 @@ fn byte_at(bytes: &[u32], at: usize) -> u32
     bytes.get(at).copied().unwrap_or(0)
 }
 
-// Four bytes as a word, the first one the lowest.
+// The four bytes from `at` on as a word, the first byte the lowest.
 fn word_at(bytes: &[u32], at: usize) -> u32
     requires bytes { AreBytes bytes.now }
     requires there { at < length bytes.now }
@@ -32,7 +32,7 @@ fn word_at(bytes: &[u32], at: usize) -> u32
     low + 65536 * high
 }
 
-// Adds bytes to words, four in each.
+// Adds bytes to words, four bytes in each word.
 fn add_packed(words: &mut Vec<u32>, bytes: &[u32]) -> Result<(), AllocError>
     requires { AreBytes bytes.now }
     ensures { OnOk result (words.new.items ≡ words.old.items ++ packed_bytes bytes.now) }

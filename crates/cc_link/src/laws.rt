@@ -1,4 +1,4 @@
-// What holds for linking just by its definition, and the laws of lower crates that it rests on.
+// The laws of linking, which follow from its definition alone, and the laws of lower crates that they rest on.
 
 ghost use Rattle.cc_tokens.specs.Tokens.{TokensAreOne};
 ghost use Rattle.cc_ast.specs.Limits.{TreesAreOne};
@@ -13,7 +13,7 @@ use cc_c_semantics::{
 use cc_syntax::trees_are_determined;
 use cc_tokens::tokens_are_determined;
 
-// The laws of texts and units together.
+// The laws of texts and of units, gathered for this crate's proofs.
 pub(crate) fn unit_laws()
     ensures tokens { TokensAreOne }
     ensures trees { TreesAreOne }
@@ -31,30 +31,31 @@ pub(crate) fn unit_laws()
     names_have_numbers();
 }
 
-/// The unit that the pieces of a checked unit make, in whatever order, has the unit's text, and its image agrees with it.
+/// The unit that the pieces of a checked unit make, in whatever order, has the checked unit's text, and its image agrees with this text.
 pub fn linked_units_agree()
     ensures { LinkedUnitsAgree }
 {
     unit_laws();
 }
 
-/// In each mode the image follows its program on a board with less stack too, if that is at least what the pieces' frames and calls take.
+/// In each mode the image follows its program also on a board with less stack, as long as it has what the pieces' frames and calls take.
 pub fn linked_units_are_backed()
     ensures { LinkedUnitsAreBacked }
 {
     unit_laws();
 }
 
-/// A unit that pieces link to has a certificate, which spells one function of LTL for each function of its source, whose run keeps up
-/// with that function.
+/// A unit that pieces link to has a certificate. It spells one LTL function for each function of the unit's source, and the run of each
+/// LTL function keeps up with its function.
 pub fn made_units_are_certified()
     ensures { MadeUnitsAreCertified }
 {
     unit_laws();
 }
 
-/// In each mode the unit that the pieces of a checked unit make has the unit's text, and on every input the run of its image follows what the
-/// program shows in that mode; so it agrees with the text. Its certificate spells LTL whose runs keep up in that mode.
+/// In each mode the unit that the pieces of a checked unit make has the checked unit's text, and on every input the run of its image
+/// follows what the program shows in that mode, so the image agrees with the text. The unit's certificate spells LTL whose runs keep up
+/// in that mode.
 pub fn linked_units_follow()
     ensures follow { LinkedUnitsFollow }
     ensures agree { AgreeInAgree }

@@ -1,7 +1,7 @@
 // From the pieces of a unit's functions to the unit that the library keeps.
 //
-// Pieces come in any order. First it is checked that there is one of each function, and that all are of this text. From then on
-// all places depend only on the functions' items in the order of definitions.
+// Pieces come in any order. First the code checks that there is one piece for each function, and that all pieces are of this text. From
+// then on every place in the image depends only on the functions' items, in the order of definitions.
 
 ghost use Rattle.std.specs.Prelude.{◌≡◌, ◌⊎◌, ◌≤◌, ◌<◌, ◌^◌, Some, Ok, Err, All, length, IfOk, IfErr};
 ghost use Rattle.std.specs.Arc.{arc_value};
@@ -90,7 +90,7 @@ fn stored(
     Ok(Arc::new(alloc, unit)?)
 }
 
-// The unit that these pieces of a unit's functions in a mode make. They are lent, in any order.
+// The unit that these pieces of a unit's functions make in a mode. They are lent in any order.
 fn made_in(
     alloc: Global,
     mode: Mode,
@@ -134,11 +134,11 @@ fn made_in(
     Ok(made)
 }
 
-/// Links the pieces of a unit in a mode, lent in any order: its source is the unit's text, its certificate has the LTL of each function, and on
-/// every input the run of its image follows what the program shows in the mode, so that it agrees with the text. It does so on each board
-/// that backs at least as many bytes of stack as the pieces' frames and calls take.
+/// Links the pieces of a unit in a mode, lent in any order: its source is the unit's text, its certificate has the LTL of each function,
+/// and on every input the run of its image follows what the program shows in the mode, so that the image agrees with the text. The image
+/// does so on each board that backs at least as many bytes of stack as the pieces' frames and calls take.
 ///
-/// Refusals: those of `link_lent`, and 28 also for a piece in another mode.
+/// Refusals: those of `link_lent`, with Stranger (28) also for a piece in another mode.
 pub fn link_in(
     alloc: Global,
     mode: Mode,
@@ -161,8 +161,9 @@ pub fn link_in(
 /// Links plain pieces of a unit, lent in any order: its source is the unit's text, its image agrees with it, and its certificate has the LTL
 /// of each function.
 ///
-/// Refusals, in this order: 28 for the first piece whose unit has another text; 27 for the first piece whose function came before; 26
-/// for the least function without a piece; 25 if the image would have more than 131,072 words of code. 40 if memory ran out.
+/// Refusals, in this order: Stranger (28) for the first piece whose unit has another text; Doubled (27) for the first piece whose
+/// function came before; Missing (26) for the lowest-numbered function without a piece; ImageTooLarge (25) if the image would have more
+/// than 131,072 words of code. OutOfMemory (40) if memory ran out.
 pub fn link_lent(
     alloc: Global,
     unit: &Arc<TypedUnit>,
@@ -174,7 +175,7 @@ pub fn link_lent(
     link_in(alloc, Mode::Plain, unit, pieces)
 }
 
-/// Links plain pieces of a unit, given up in any order. It answers what `link_lent` does.
+/// Links plain pieces of a unit, given up in any order. It answers as `link_lent` does.
 pub fn link(
     alloc: Global,
     unit: &Arc<TypedUnit>,
@@ -186,7 +187,7 @@ pub fn link(
     link_pieces_in(alloc, Mode::Plain, unit, pieces)
 }
 
-/// Links the pieces of a unit in a mode, given up in any order. It answers what `link_in` does.
+/// Links the pieces of a unit in a mode, given up in any order. It answers as `link_in` does.
 pub fn link_pieces_in(
     alloc: Global,
     mode: Mode,
@@ -201,7 +202,7 @@ pub fn link_pieces_in(
     link_all_in(alloc, mode, unit, pieces.as_slice())
 }
 
-/// Links the pieces of a unit in a mode, which lie one after the other. It answers what `link_in` does.
+/// Links the pieces of a unit in a mode, which lie one after the other. It answers as `link_in` does.
 pub(crate) fn link_all_in(
     alloc: Global,
     mode: Mode,
@@ -222,7 +223,7 @@ pub(crate) fn link_all_in(
     link_in(alloc, mode, unit, lent.as_slice())
 }
 
-/// References to pieces, in their order. `AllocError` if memory runs out.
+/// References to pieces, in order. `AllocError` if memory runs out.
 pub fn lend(alloc: Global, pieces: &[Piece]) -> Result<Vec<&Piece>, AllocError>
     ensures { IfOk result (λ all. lent_pieces all.items ≡ pieces.now) }
 {

@@ -1,6 +1,7 @@
-// The piece of each function: the refusals 28, 27 and 26, and the functions' pieces in the order of definitions.
+// The piece of each function: the refusals Stranger (28), Doubled (27) and Missing (26), and the functions' pieces in the
+// order of definitions.
 //
-// There are at most 64 functions, so a piece is found by going over all of them.
+// There are at most 64 functions, so a piece is found by going over all the pieces.
 
 ghost use Rattle.std.specs.Prelude.{◌≡◌, ◌⊎◌, [], None, Some, All, IfOk, IfErr, IfNone, MatchOption};
 ghost use Rattle.cc_emit.specs.Piece.{IsPieceOfUnit};
@@ -44,7 +45,8 @@ fn is_own(mode: Mode, text: &[u8], piece: &Piece) -> bool
     }
 }
 
-/// 28 for the first piece of a unit of another text, or in another mode. If there is none, each piece has what its type keeps.
+/// Stranger (28) for the first piece that is in another mode or of a unit with another text. If there is no such piece, each
+/// piece has what its type keeps.
 pub(crate) fn stranger(mode: Mode, text: &[u8], pieces: &[&Piece]) -> Option<LinkFault>
     ensures answer { result ≡ stranger mode text.now 0 (lent_pieces pieces.now) }
     ensures kept { IfNone result (All IsPieceOfUnit (lent_pieces pieces.now)) }
@@ -74,7 +76,7 @@ fn came(pieces: &[&Piece], function: usize) -> bool
     false
 }
 
-/// 27 for the first piece whose function has an earlier piece.
+/// Doubled (27) for the first piece whose function has an earlier piece.
 pub(crate) fn doubled(pieces: &[&Piece]) -> Option<LinkFault>
     ensures { result ≡ doubled [] 0 (lent_pieces pieces.now) }
 {
@@ -99,7 +101,8 @@ fn piece_of<'a>(pieces: &'a [&'a Piece], function: usize) -> Option<&'a Piece>
     None
 }
 
-/// The first pieces of this many functions, in the functions' order; or 26 for the least function without one.
+/// The first piece of each of this many functions, in the order of functions; or Missing (26) for the lowest-numbered function
+/// without a piece.
 pub fn in_order<'a>(
     alloc: Global,
     functions: usize,
@@ -121,7 +124,7 @@ pub fn in_order<'a>(
     Ok(ordered)
 }
 
-/// The items of pieces, in their order.
+/// The items of each piece, in the order of pieces.
 pub(crate) fn all_items<'a>(
     alloc: Global,
     pieces: &'a [&'a Piece],

@@ -26,7 +26,8 @@ use cc_validate::{LtlPair, Refused, ValidateFault, validate};
 use std::alloc::{AllocError, Global};
 use std::sync::Arc;
 
-/// The RTL of a function, once the nodes that nobody needs have gone, and its live sets. Nothing rests on these sets.
+/// The RTL of a function once the nodes that nothing needs are nops, with its live sets. No proof depends on these
+/// sets.
 #[derive(Drop)]
 pub(crate) struct Colourable {
     pub(crate) rtl: RtlPair,
@@ -69,7 +70,7 @@ fn lowered<W: Watch>(
     }
 }
 
-// Shows the Cminor with guards of a checked function. A plain one has none.
+// Shows the Cminor with guards of a checked function. A plain function has no guards.
 fn show_guarded<W: Watch>(mode: Mode, pair: &CminorPair, watch: &mut W) -> Result<(), AllocError> {
     match mode {
         Mode::Plain => Ok(()),
@@ -93,7 +94,7 @@ fn generated<W: Watch>(alloc: Global, pair: CminorPair, watch: &mut W) -> Result
     }
 }
 
-// RTL in which the nodes that nobody needs are nops. It fails only for lack of memory.
+// RTL in which the nodes that nothing needs are nops. It fails only if memory runs out.
 fn pruned<W: Watch>(alloc: Global, pair: RtlPair, watch: &mut W) -> Result<Colourable, RtlFault>
     ensures mode { IfOk result (λ made. made.rtl.mode ≡ pair.mode) }
     ensures unit { IfOk result (λ made. made.rtl.unit ≡ pair.unit) }
@@ -111,7 +112,7 @@ fn pruned<W: Watch>(alloc: Global, pair: RtlPair, watch: &mut W) -> Result<Colou
     }
 }
 
-/// The RTL of a function in a mode, once the nodes that nobody needs have gone, with its live sets.
+/// The RTL of a function in a mode once the nodes that nothing needs are nops, with its live sets.
 pub(crate) fn prepared<W: Watch>(
     alloc: Global,
     mode: Mode,
@@ -138,7 +139,7 @@ pub(crate) fn prepared<W: Watch>(
     }
 }
 
-// Shows that LTL was refused, and returns the fault.
+// Shows the watcher that LTL was refused, and returns the fault, or `OutOfMemory` if the watcher refuses.
 fn told<W: Watch>(fault: ValidateFault, watch: &mut W) -> ValidateFault {
     match fault {
         ValidateFault::Unvalidated { label } => match watch.see(Seen::Refused(label)) {
@@ -149,7 +150,7 @@ fn told<W: Watch>(fault: ValidateFault, watch: &mut W) -> ValidateFault {
     }
 }
 
-// Whether the validator accepts an allocator's LTL. If not, the RTL comes back.
+// The validated LTL, if the validator accepts an allocator's LTL. If it does not, the RTL is handed back.
 fn judged<W: Watch>(
     alloc: Global,
     pair: RtlPair,
@@ -177,7 +178,7 @@ fn judged<W: Watch>(
     }
 }
 
-// LTL that is made by this allocator or by none.
+// The validated LTL of this allocator, or a fault: no other allocator is tried.
 fn accepted<W: Watch>(
     alloc: Global,
     pair: RtlPair,
@@ -212,7 +213,7 @@ fn coloured(alloc: Global, rtl: &Rtl, live: Liveness) -> Result<Ltl, AllocError>
     colour(alloc, rtl, &live)
 }
 
-// LTL with values in registers, or with a slot for each value if the validator refuses that.
+// LTL with values in registers, or, if the validator refuses it, LTL with a slot for each value.
 fn chosen<W: Watch>(
     alloc: Global,
     colourable: Colourable,
@@ -258,7 +259,7 @@ fn allocated<W: Watch>(
     }
 }
 
-// The piece of validated LTL.
+// The piece made from validated LTL.
 fn emitted<W: Watch>(alloc: Global, pair: LtlPair, watch: &mut W) -> Result<Piece, AllocError>
     ensures mode { IfOk result (λ piece. piece.mode ≡ pair.mode) }
     ensures unit { IfOk result (λ piece. piece.unit ≡ pair.unit) }
@@ -275,7 +276,7 @@ fn emitted<W: Watch>(alloc: Global, pair: LtlPair, watch: &mut W) -> Result<Piec
     emit(alloc, selected)
 }
 
-/// The piece of a function in RTL. It fails as the validator does, or for lack of memory.
+/// The piece made from a function's RTL. It fails as the validator does, or if memory runs out.
 pub(crate) fn finished<W: Watch>(
     alloc: Global,
     colourable: Colourable,

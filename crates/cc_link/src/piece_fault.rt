@@ -8,13 +8,15 @@ use thiserror::Error;
 /// Why a function has no piece. The function's name begins in the text at the offset `at` and has `length` bytes.
 #[derive(Clone, Copy, Debug, Error)]
 pub enum PieceFault {
-    /// 22: the function would have more than 4,096 nodes of RTL, which no definition of at most 256 tokens has.
+    /// 22: the function would have more than 4,096 nodes of RTL, or guards that set more than 2,048 variables.
+    /// This takes more than 256 tokens, or 177 in a checked piece.
     #[error("FunctionTooLarge")]
     FunctionTooLarge {
         at: usize,
         length: usize,
     },
-    /// 24: it is not shown that the allocated code does what the function does; the proof failed at this label.
+    /// 24: the validator could not show that the allocated code does what the function does; its check failed at
+    /// this label.
     #[error("Unvalidated")]
     Unvalidated {
         at: usize,

@@ -1,5 +1,5 @@
-// From a text to its program: the one way in for every text, whether it is checked, run, compiled, audited or shown. A text leads
-// to one program or one fault.
+// From a text to its program. Every text passes through here, whether it is checked, run, compiled, audited or shown. A text
+// leads to one program or one fault.
 
 ghost use Rattle.std.specs.Prelude.{◌≡◌, ◌≤◌, length, IfOk, IfErr};
 ghost use Rattle.std.specs.Arc.{arc_value};
@@ -15,7 +15,7 @@ use std::alloc::Global;
 use std::sync::Arc;
 use thiserror::Error;
 
-/// Why a text is no program's.
+/// Why a text is not a program.
 #[derive(Debug, Drop, Error)]
 pub enum TextFault {
     /// 1 to 7, 40: the text has no tree.

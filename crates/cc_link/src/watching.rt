@@ -1,4 +1,4 @@
-// The source of a function's allocation, and the watcher of a function on its way through the passes.
+// Where a function's allocation comes from, and who watches a function on its way through the passes.
 
 use cc_cminor::CminorPair;
 use cc_linear_language::LinearPair;
@@ -7,14 +7,14 @@ use cc_rtl::Rtl;
 use cc_select::SelectedPair;
 use std::alloc::AllocError;
 
-/// The source of a function's allocation. Nothing is believed about any of them: the validator judges each.
+/// The source of a function's allocation. No source is trusted: the validator judges every allocation.
 #[derive(Drop)]
 pub enum Allocation {
-    /// Registers, or a slot for each value if the validator refuses those.
+    /// Registers, or, if the validator refuses these, a slot for each value.
     Chosen,
     /// A slot for each value.
     Spilled,
-    /// This allocation, as the certificate of a stored unit has it.
+    /// This allocation, which was read from the certificate of a stored unit.
     Given(Ltl),
 }
 
@@ -25,11 +25,11 @@ pub enum Allocator {
     Colour,
     /// An allocator with a slot for each value.
     Spill,
-    /// The LTL was given.
+    /// No allocator of the compiler: the LTL was given.
     Given,
 }
 
-/// What is seen of a function: what a pass made of it, in the order of the passes.
+/// What a watcher sees: what a pass made from a function, in the order of the passes.
 #[derive(Clone, Copy)]
 pub enum Seen<'a> {
     /// Cminor.
@@ -38,9 +38,9 @@ pub enum Seen<'a> {
     Guarded(&'a CminorPair),
     /// RTL as it is generated.
     Rtl(&'a Rtl),
-    /// RTL in which the nodes that nobody needs are nops.
+    /// RTL in which the nodes that nothing needs are nops.
     Pruned(&'a Rtl),
-    /// LTL that the validator has not judged.
+    /// LTL that the validator has not judged yet.
     Allocated(Allocator, &'a Ltl),
     /// The validator refuses the LTL, at this label.
     Refused(u32),
@@ -48,7 +48,7 @@ pub enum Seen<'a> {
     Validated(&'a Ltl),
     /// Linear.
     Linear(&'a LinearPair),
-    /// The steps that selection gives.
+    /// The steps that selection yields.
     Selected(&'a SelectedPair),
 }
 

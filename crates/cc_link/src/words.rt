@@ -16,7 +16,7 @@ use cc_rv32::map::CODE_FROM;
 use cc_rv32::operand::{Immediate, JumpOffset, Register};
 use std::alloc::{AllocError, Global};
 
-// How many words come before the functions, and the address at which those begin.
+// How many words come before the functions, and the address at which the functions begin.
 const HEAD_WORDS: usize = 3;
 
 const FUNCTIONS_FROM: u32 = CODE_FROM + 12;
@@ -35,7 +35,7 @@ pub(crate) fn fits(bodies: &[&[PieceItem]]) -> bool
     true
 }
 
-/// The places of the functions, in their order.
+/// The places of the functions, in order.
 fn places(alloc: Global, bodies: &[&[PieceItem]]) -> Result<Vec<u32>, AllocError>
     requires { code_words (lent bodies.now) ≤ most_code }
     ensures { IfOk result (λ places. places.items ≡ places_from FUNCTIONS_FROM (lent bodies.now)) }
@@ -49,7 +49,7 @@ fn places(alloc: Global, bodies: &[&[PieceItem]]) -> Result<Vec<u32>, AllocError
     Ok(places)
 }
 
-// How far a jump at one address goes to another.
+// The distance that a jump goes from one address to another.
 fn distance(at: u32, to: u32) -> JumpOffset
     requires at { IsPlace at }
     requires to { IsPlace to }
@@ -114,7 +114,7 @@ fn add_functions(
     Ok(())
 }
 
-/// Adds the head's words: the call of `main`, and the exit with its word.
+/// Adds the head's words: the call of `main`, and the exit with the word that `main` returns.
 fn add_head(words: &mut Vec<u32>, places: &[u32], main: usize) -> Result<(), AllocError>
     requires places { ArePlaces places.now }
     requires main { main < length places.now }
@@ -133,7 +133,7 @@ fn add_head(words: &mut Vec<u32>, places: &[u32], main: usize) -> Result<(), All
     Ok(())
 }
 
-// How many words the code of the functions takes, including the head. It only decides how much memory is taken at once.
+// How many words the code of the functions takes, including the head. This only decides how much memory is taken at once.
 fn room(bodies: &[&[PieceItem]]) -> usize {
     let mut words = HEAD_WORDS;
     for items in bodies {
@@ -142,7 +142,7 @@ fn room(bodies: &[&[PieceItem]]) -> usize {
     words
 }
 
-/// The code of the functions. The one with the number `main` is called first.
+/// The code of the functions. It calls the function with the number `main` first.
 pub(crate) fn code(alloc: Global, main: usize, bodies: &[&[PieceItem]]) -> Result<Code, AllocError>
     requires main { main < length bodies.now }
     requires few { code_words (lent bodies.now) ≤ most_code }

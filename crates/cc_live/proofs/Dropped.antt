@@ -119,7 +119,7 @@ may_go live ns a h = record {
       or_right (is_nop node) (is_dead live node) (sym d ∙ i);
 }
 
--- ---- what is left without the nodes that nobody needs
+-- ---- what is left without the nodes that nothing needs
 
 none_apart : (r : ℕ) → None ≢ Some r
 none_apart r e = absurd (let z : None ≡ Some r = e in cc)

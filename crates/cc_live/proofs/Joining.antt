@@ -1,5 +1,5 @@
--- A row that holds what either of two rows holds is their join. If one lies within the other, the join is the other; otherwise
--- the join lacks less.
+-- A row that holds what either of two rows holds is their join. If one of the rows lies within the other, the join is the
+-- other row; otherwise the join lacks fewer registers.
 use Rattle.std.proofs.Common.{◌≡◌, ◌∙◌, ℕ, ◌*◌, ◌<◌, ◌≤◌, List, length, sym, ◌||◌, IsTrue, IsFalse, arith}
 use Rattle.std.proofs.lemmas.Bool.{or_left, or_right}
 use Rattle.cc_flow.specs.Lattice.{Equivalent}

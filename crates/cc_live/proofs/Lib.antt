@@ -1,6 +1,6 @@
 -- How live sets and dead nodes are found. `liveness` is the solver's answer with sets of registers as facts. `drop_faint` asks the same
 -- solver for strongly live sets, in which a dead node needs nothing of what it reads. Their least solution shows at once all that rounds of
--- `liveness` and `drop_dead` would find, and also two nodes that only read each other (Solved, Dropped).
+-- `liveness` and `drop_dead` would find, and also two nodes that are read only by each other (Solved, Dropped).
 --
 -- What the join of two rows is.
 pub mod Joining

@@ -1,4 +1,4 @@
--- The nodes as the code walks over them: each node leads to existing nodes, and the labels of the dead ones are listed in their
+-- The nodes as the code walks over them: each node leads to existing nodes, and the labels of the dead nodes are listed in
 -- order.
 use Rattle.std.proofs.Common.{◌≡◌, ℕ, ◌+◌, ◌<◌, List, [], ◌∷◌, ◌++◌, length, take, get_or, sym, ap, ◌∙◌, subst, Bool, true, false, if◌then◌else◌, All}
 use Rattle.std.specs.Prelude.{Some, IsSome, slice_get}

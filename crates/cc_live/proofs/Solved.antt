@@ -1,5 +1,6 @@
 -- The solution that lies below every other one is the least live sets: what comes back to a node is what the node reads and what
--- is live after it, except its result. Other live sets, cut down to the registers that some node reads, are a solution too.
+-- is live after it, except the node's result. Other live sets, cut down to the registers that some node reads, are a solution
+-- too.
 use Rattle.std.proofs.Common.{◌≡◌, ℕ, ◌<◌, List, [], ◌∷◌, length, map, get_or, refl, sym, ap, ◌∙◌, subst, Bool, true, false, ◌&&◌, ◌||◌, IsTrue, arith, inl, inr}
 use Rattle.std.specs.Prelude.{Option, Some, None, IsSome, slice_get}
 use Rattle.std.proofs.lemmas.Option.{slice_get_within, slice_get-get_or}
@@ -42,7 +43,7 @@ behind_is ns facts i n e r = ap (λ row. holds (joined nothing either facts row)
 pub graph_length : (ns : List Labelled) → length (graph_of ns) ≡ length ns
 graph_length ns = length-map ns (λ (n : Labelled). map (position_of ns) (successors n.node))
 
--- ---- a solution gives live sets
+-- ---- a solution yields live sets
 
 pub solved : (strong : Bool) (ns : List Labelled) (rows : List (List ℕ)) → SolvesBy strong ns (facts_at nothing rows) → AreLiveAs strong ns (rows_at ns rows)
 solved strong ns rows solves label node e =
@@ -67,7 +68,7 @@ cut : List Labelled → Sets → ℕ → List ℕ
 cut ns other i = those (other (label_at ns i)) (bound ns)
 
 module _ (strong : Bool) (rtl : Rtl) (is : IsRtl rtl) (other : Sets) (live : AreLiveAs strong rtl.nodes other) where
-  -- what the sets that were cut down have after a node is live after it, and is read by some node
+  -- what the cut-down sets have after a node is live after the node, and some node reads it
   held : (i : ℕ) (n : Labelled) → slice_get rtl.nodes i ≡ Some n → node_at rtl.nodes n.label ≡ Some n.node → (r : ℕ) → IsTrue (holds (behind rtl.nodes (cut rtl.nodes other) i) r) → IsTrue (live_behind other n.node r) × IsTrue (holds (bound rtl.nodes) r)
   unfolding cut
   held i n e here r h =
@@ -91,7 +92,7 @@ module _ (strong : Bool) (rtl : Rtl) (is : IsRtl rtl) (other : Sets) (live : Are
         | inr (after, d) ↦ (let b = held i n e here r after in those_in (other n.label) (bound rtl.nodes) r b.1 (own.inherited r b.0 d))
       ]
 
-  -- so what lies below every solution lies within the other live sets
+  -- what lies below every solution lies within the other live sets
   pub within_other : (rows : List (List ℕ)) → length rows ≡ length rtl.nodes → ((facts : ℕ → List ℕ) → SolvesBy strong rtl.nodes facts → LiesUnder Below (facts_at nothing rows) facts) → LieWithin (rows_at rtl.nodes rows) other
   unfolding cut
   within_other rows long under label r h = go (node_at rtl.nodes label) refl
@@ -106,7 +107,7 @@ module _ (strong : Bool) (rtl : Rtl) (is : IsRtl rtl) (other : Sets) (live : Are
           let both = in_those (other (label_at rtl.nodes (position_of rtl.nodes label))) (bound rtl.nodes) r (under (cut rtl.nodes other) cut_solves (position_of rtl.nodes label) r h) in
           subst (λ l. IsTrue (other l r)) (label_of_position rtl.nodes label (subst IsSome (sym e) refl)) both.1
 
--- the solution that lies below every other gives the least live sets
+-- the solution that lies below every other yields the least live sets
 pub least_solved : (strong : Bool) (rtl : Rtl) → IsRtl rtl → (rows : List (List ℕ)) → length rows ≡ length rtl.nodes → SolvesBy strong rtl.nodes (facts_at nothing rows)
     → ((facts : ℕ → List ℕ) → SolvesBy strong rtl.nodes facts → LiesUnder Below (facts_at nothing rows) facts) → AreLeastAs strong rtl.nodes (rows_at rtl.nodes rows)
 least_solved strong rtl is rows long solves under = record {

@@ -1,5 +1,4 @@
--- The least live sets of a function; strongly live sets, in which what only dead nodes read is not live; and a function without
--- dead nodes.
+-- The least live sets of a function; strongly live sets, in which what only dead nodes read is not live; and a function without dead nodes.
 use Rattle.std.specs.Prelude.{◌≡◌, ◌≢◌, ℕ, List, Contains, Bool, false, IsTrue, Some}
 use Rattle.cc_rtl_language.specs.Rtl.{Rtl, Labelled, Node, node_at}
 use Rattle.cc_rtl_language.specs.Live.{Sets, AreLive, reads, result, live_behind, is_dead, with_nops}
@@ -33,8 +32,8 @@ pub record AreLeastStronglyLive (nodes : List Labelled) (live : Sets) : Type 0 w
 abbrev pub without_dead : Sets → Rtl → Rtl
 without_dead live rtl = record rtl { nodes = with_nops (λ label node. is_dead live node) rtl.nodes }
 
--- What is left of a function without all the nodes that nobody needs: those nodes that are dead by its least strongly live sets
--- are nops, and only those. These sets are then the least live sets of what is left.
+-- What is left of a function without all the nodes that nothing needs: those nodes that are dead by its least strongly live sets are nops,
+-- and only those. These sets are then the least live sets of what is left.
 pub record IsWithoutFaint (old new : Rtl) : Type 0 where
   pub live : Sets
   pub strongly : AreLeastStronglyLive old.nodes live

@@ -14,9 +14,9 @@ use crate::transfer::solve;
 use cc_rtl_language::{Node, Rtl, RtlPair};
 use std::alloc::{AllocError, Global};
 
-/// Makes nops of the pure nodes whose result is in none of their successors' sets. Any live sets of the code will do. The rest of
-/// the pair stays as it is, and its run still keeps up with the function. What the removed nodes read is then possibly no longer
-/// live, so more nodes may be dead: `drop_faint` removes them all. If memory runs out, the pair stays as it was.
+/// Turns the pure nodes whose result is in none of their successors' sets into nops. Any live sets of the code will do. The rest
+/// of the pair stays as it is, and the pair's run still keeps up with the function. What the removed nodes read may no longer be
+/// live then, so more nodes may be dead: `drop_faint` removes them all. If memory runs out, the pair stays as it was.
 pub fn drop_dead(alloc: Global, pair: &mut RtlPair, live: &Liveness) -> Result<(), AllocError>
     requires { AreLive pair.old.rtl.nodes (rows_at pair.old.rtl.nodes live.now) }
     ensures dropped { IfOk result (λ _. pair.new ≡ record pair.old { rtl = without_dead (rows_at pair.old.rtl.nodes live.now) pair.old.rtl }) }
@@ -26,9 +26,9 @@ pub fn drop_dead(alloc: Global, pair: &mut RtlPair, live: &Liveness) -> Result<(
     Ok(())
 }
 
-/// Makes nops of all nodes that nobody needs: pure ones whose result is read only by such nodes, or by none. The rest of the pair
-/// stays as it is, and its run still keeps up with the function. Afterwards no node is dead. The answer is the least live sets of
-/// what is left, as `liveness` would give them. If memory runs out, the pair stays as it was.
+/// Turns all nodes that nothing needs into nops: the pure nodes whose result is read only by such nodes, or by no node. The rest
+/// of the pair stays as it is, and the pair's run still keeps up with the function. Afterwards no node is dead. The answer is the
+/// least live sets of what is left, as `liveness` would answer them. If memory runs out, the pair stays as it was.
 pub fn drop_faint(alloc: Global, pair: &mut RtlPair) -> Result<Liveness, AllocError>
     ensures mode { pair.new.mode ≡ pair.old.mode }
     ensures unit { pair.new.unit ≡ pair.old.unit }
@@ -44,7 +44,7 @@ pub fn drop_faint(alloc: Global, pair: &mut RtlPair) -> Result<Liveness, AllocEr
     Ok(Liveness::new(live))
 }
 
-/// Makes nops of the nodes that are dead by strongly live sets; any live sets will do, since they are strongly live.
+/// Turns the nodes that are dead by strongly live sets into nops; any live sets will do, since live sets are strongly live too.
 fn drop_by(alloc: Global, pair: &mut RtlPair, live: &[RegisterSet]) -> Result<(), AllocError>
     requires { AreStronglyLive pair.old.rtl.nodes (rows_at pair.old.rtl.nodes live.now) }
     ensures dropped { IfOk result (λ _. pair.new ≡ record pair.old { rtl = without_dead (rows_at pair.old.rtl.nodes live.now) pair.old.rtl }) }

@@ -11,8 +11,8 @@ use cc_rtl_language::Rtl;
 use std::alloc::{AllocError, Global};
 
 /// The least live sets: for each node, the registers that are live before it. A node's set holds what the node reads, and what
-/// its successors' sets hold except its result. It holds only what the node's set in every such family of sets holds. Err: memory
-/// ran out.
+/// its successors' sets hold except the node's result. It holds only what the node's set holds in every family of sets for which
+/// this is true. Err: memory ran out.
 pub fn liveness(alloc: Global, rtl: &Rtl) -> Result<Liveness, AllocError>
     ensures long { IfOk result (λ sets. length sets ≡ length rtl.now.nodes) }
     ensures live { IfOk result (λ sets. AreLive rtl.now.nodes (rows_at rtl.now.nodes sets)) }

@@ -90,7 +90,7 @@ impl Model for Liveness {
 }
 
 impl Liveness {
-    /// These live sets, one for each node.
+    /// Makes the live sets of a function from these sets, one for each node in order.
     pub(crate) fn new(sets: Vec<RegisterSet>) -> Liveness
         ensures { result ≡ sets.items }
     {

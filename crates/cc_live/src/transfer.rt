@@ -66,7 +66,8 @@ fn drop_result(before: &mut RegisterSet, node: &Node)
     }
 }
 
-/// Whether a node needs nothing of what it reads: with `strong`, that is a pure node whose result is not live after it.
+/// Whether a node needs nothing of what it reads: true with `strong`, if the node is pure and its result is not live after
+/// it.
 fn is_left_out(strong: bool, node: &Node, behind: &RegisterSet) -> bool
     ensures { result ≡ (strong && is_unread behind.now (pure_result_of (node_of node.now))) }
 {

@@ -14,14 +14,15 @@ use Rattle.cc_library.proofs.Commands.{one_command}
 use Rattle.cc_log.specs.Commands.{AreRead}
 use Rattle.cc_log.specs.internal.Reading.{IsUnread}
 
--- bodies and commands with one more of each at the end
+-- if bodies spell commands, and one more body spells one more command, then all bodies spell all commands
 pub spelled_push : (bodies : List (List ℕ)) (commands : List LibraryCommand) (body : List ℕ) (command : LibraryCommand) → AreSpelled bodies commands → Spells body command → AreSpelled (bodies ++ body ∷ []) (commands ++ command ∷ [])
 spelled_push [] [] body command spelled one = (one, tt)
 spelled_push [] (c ∷ commands) body command spelled one = absurd spelled
 spelled_push (b ∷ bodies) [] body command spelled one = absurd spelled
 spelled_push (b ∷ bodies) (c ∷ commands) body command spelled one = (spelled.0, spelled_push bodies commands body command spelled.1 one)
 
--- one more body of a list spells one more command
+-- if the bodies so far spell the commands so far, and the next body spells a command, one more body spells
+-- one more command
 pub spelled_more : (bodies : List (List ℕ)) (i : ℕ) (body : List ℕ) (commands : List LibraryCommand) (command : LibraryCommand) → i < length bodies → body ≡ get_or bodies i body
     → AreSpelled (take i bodies) commands → Spells body command → AreSpelled (take (i + 1) bodies) (commands ++ command ∷ [])
 spelled_more bodies i body commands command within is so_far one =
@@ -35,7 +36,7 @@ spelled_at (b ∷ bodies) [] i body within is spelled = absurd spelled
 spelled_at (b ∷ bodies) (c ∷ commands) zero body within is spelled = (c, subst (λ (x : List ℕ). Spells x c) (sym is) spelled.0)
 spelled_at (b ∷ bodies) (c ∷ commands) (suc i) body within is spelled = spelled_at bodies commands i body (omega arith) is spelled.1
 
--- if one body cannot be read as a command, the bodies spell no commands
+-- if one body does not spell a command, the bodies do not spell commands
 pub unread : (bodies : List (List ℕ)) (i : ℕ) (body : List ℕ) → i < length bodies → body ≡ get_or bodies i body → ((command : LibraryCommand) → Spells body command → ⊥) → (commands : List LibraryCommand) → AreSpelled bodies commands → ⊥
 unread bodies i body within is none commands spelled = let one = spelled_at bodies commands i body within is spelled in none one.0 one.1
 
@@ -56,7 +57,7 @@ pub read_of : (bodies : List (List ℕ)) (units : Units) (commands : List Librar
 read_of bodies units commands stand spelled =
     record { spelled = spelled; accepted = subst (λ (l : List LibraryCommand). AreAccepted empty l) (same_commands bodies stand.commands commands stand.spelled spelled) stand.accepted }
 
--- bodies that spell no commands represent no map
+-- if bodies do not spell commands, they do not represent a map
 pub unread_stand : (bodies : List (List ℕ)) (fault : LibraryFault) → IsUnread bodies fault → ReplayFaults bodies fault
 unread_stand bodies Damaged why = λ units stand. why stand.commands stand.spelled
 unread_stand bodies OutOfMemory why = tt
@@ -67,12 +68,12 @@ unread_stand bodies Absent why = why
 unread_stand bodies Full why = why
 unread_stand bodies Closed why = why
 
--- a claim about a result's answer follows from another one
+-- if P implies Q, and P holds of a result's answer, if there is one, then so does Q
 pub of_ok : {A F : Type 0} {P Q : A → Type 0} → ((a : A) → P a → Q a) → (r : Result A F) → IfOk r P → IfOk r Q
 of_ok step (Ok a) p = step a p
 of_ok step (Err f) p = tt
 
--- a claim about a result's refusal follows from another one
+-- if P implies Q, and P holds of a result's refusal, if there is one, then so does Q
 pub of_err : {A F : Type 0} {P Q : F → Type 0} → ((f : F) → P f → Q f) → (r : Result A F) → IfErr r P → IfErr r Q
 of_err step (Ok a) p = tt
 of_err step (Err f) p = step f p

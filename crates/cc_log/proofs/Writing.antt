@@ -6,7 +6,7 @@ use Rattle.std.specs.Io.KnownBytes.{Appends}
 use Rattle.cc_library.specs.Change.{LibraryCommand}
 use Rattle.cc_log.specs.Written.{line_text, lines_after, log_text}
 
--- the lines for commands with one more at the end
+-- the lines for commands with one more at the end are those for the commands and then its own
 lines_push : (name : Option (List ℕ)) (k : ℕ) (commands : List LibraryCommand) (command : LibraryCommand)
     → lines_after name k (commands ++ command ∷ []) ≡ lines_after name k commands ++ line_text name (k + length commands + 1) command
 lines_push name k [] command =
@@ -17,7 +17,8 @@ lines_push name k (c ∷ commands) command =
     ap (λ l. line_text name (k + 1) c ++ l) (lines_push name (k + 1) commands command ∙ ap (λ (n : ℕ). lines_after name (k + 1) commands ++ line_text name n command) same)
     ∙ sym (append_assoc (line_text name (k + 1) c) (lines_after name (k + 1) commands) (line_text name (k + length (c ∷ commands) + 1) command))
 
--- the line for one more command is written
+-- if the lines so far were written, and then the line for one more command, the lines for all of these
+-- commands were written
 pub one_more : (name : Option (List ℕ)) (a b c : Option (List ℕ)) (commands : List LibraryCommand) (i : ℕ) (command : LibraryCommand) → i < length commands → command ≡ get_or commands i command
     → Appends a b (log_text name (take i commands)) → Appends b c (line_text name (i + 1) command) → Appends a c (log_text name (take (i + 1) commands))
 one_more name a b c commands i command within is one two =

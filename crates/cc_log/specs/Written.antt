@@ -12,7 +12,7 @@ name_of (Add name unit) = name
 name_of (Replace name unit) = name
 name_of (Withdraw name) = name
 
--- the command was asked for: every command is, or those about one name are
+-- the command was asked for: all commands were, or those about the name were
 abbrev pub is_asked : Option (List ℕ) → LibraryCommand → Bool
 is_asked None command = true
 is_asked (Some name) command = bytes_eq (name_of command) name
@@ -31,7 +31,7 @@ command_text (Withdraw name) = codes " withdraw " ++ (name ++ codes "\n")
 abbrev pub line_text : Option (List ℕ) → (number : ℕ) → LibraryCommand → List ℕ
 line_text name number command = if is_asked name command then decimal number ++ command_text command else []
 
--- the lines for commands, the first of which has the number after this one
+-- the lines for commands, whose numbers begin at one more than this number
 abbrev pub lines_after : Option (List ℕ) → ℕ → List LibraryCommand → List ℕ
 lines_after name number [] = []
 lines_after name number (command ∷ commands) = line_text name (number + 1) command ++ lines_after name (number + 1) commands

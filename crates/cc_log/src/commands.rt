@@ -1,4 +1,4 @@
-// The commands of a disk's records.
+// Reads the commands that a disk's records spell.
 
 ghost use Rattle.std.specs.Prelude.{◌≡◌, IsTrue, IfOk, IfErr, OnOk};
 ghost use Rattle.cc_disk.specs.Images.{OnlyReads};
@@ -28,7 +28,7 @@ fn spelled(alloc: Global, bodies: &[Body]) -> Result<Vec<LibraryCommand>, Librar
     Ok(commands)
 }
 
-// The commands that these bodies spell, if the library accepts each in its turn.
+// The commands that these bodies spell, if the library accepts them one after another.
 fn accepted(alloc: Global, bodies: &[Body]) -> Result<Vec<LibraryCommand>, LibraryFault>
     ensures commands { IfOk result (λ commands. AreRead bodies.now commands.items) }
     ensures refused { IfErr result (λ fault. ReplayFaults bodies.now fault) }
@@ -48,7 +48,7 @@ pub fn commands_on<D: Disk + Drop>(
     alloc: Global,
     disk: D,
 ) -> (Result<Vec<LibraryCommand>, LibraryFault>, D)
-    // This holds if the disk is honest.
+    // On an honest disk, the commands are those whose records the disk has.
     ensures commands { IfOk result.0 (λ commands. IsTrue D.honest → HasCommands (D.seen disk) commands.items) }
     ensures refused { IfErr result.0 (λ fault. OpenFaults D.honest (D.seen disk) (D.failures disk) (D.failures result.1) fault) }
     ensures sound { OnOk result.0 (D.failures result.1 ≡ D.failures disk) }

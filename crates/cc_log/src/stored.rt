@@ -5,7 +5,7 @@ ghost use Rattle.cc_log.specs.Commands.{stored_at, stored_by};
 
 use cc_library::{LibraryCommand, Name, SharedUnit};
 
-// The unit that a command stored under this name; `None` if it stored none under it.
+// The unit that a command stored under this name; `None` if it stored no unit there.
 fn stored_by<'a>(command: &'a LibraryCommand, name: &Name) -> Option<&'a SharedUnit>
     ensures { option_map (λ unit. unit.now) result ≡ stored_by command.now name.now }
 {
@@ -21,7 +21,7 @@ fn stored_by<'a>(command: &'a LibraryCommand, name: &Name) -> Option<&'a SharedU
     }
 }
 
-/// The unit that the command with this number stored under this name; `None` if it stored none under it. The first command has
+/// The unit that the command with this number stored under this name; `None` if it stored no unit there. The first command has
 /// the number 1.
 pub fn stored_at<'a>(
     commands: &'a [LibraryCommand],

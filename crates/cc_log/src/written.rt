@@ -1,4 +1,4 @@
-// The lines that are written for commands.
+// Writes the lines for commands.
 
 ghost use Rattle.std.specs.Prelude.{◌≡◌, OnOk, option_map};
 ghost use Rattle.std.specs.Io.KnownBytes.{Appends};
@@ -80,8 +80,8 @@ fn write_line<W: Write>(
 }
 
 /// Writes a line for each command, or, if a name is given, for each command about that name. A line has the command's number,
-/// counted from 1; what the command does; and for a unit the number of bytes of its source and the number of words of its code.
-/// Fails if the writer failed.
+/// counted from 1; what the command does; and, if it stores a unit, the number of bytes of the unit's source and the number of
+/// words of its code. Fails if the writer failed.
 pub fn write_log<W: Write>(
     commands: &[LibraryCommand],
     name: Option<&Name>,

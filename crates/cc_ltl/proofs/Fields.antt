@@ -31,7 +31,7 @@ pub bind_some : {A B : Type 0} (o : Option A) (f : A → Option B) (y : B) → (
 bind_some (Some x) f y e = (x, refl, e)
 bind_some None f y e = absurd (none-some y e)
 
--- which of two options gave the value
+-- if a choice between two options has a value, the chosen option has it
 pub which : {A : Type 0} (b : Bool) (x y : Option A) (z : A) → cond b x y ≡ Some z → ((b ≡ true) × (x ≡ Some z)) ⊎ ((b ≡ false) × (y ≡ Some z))
 which true x y z e = inl (refl, e)
 which false x y z e = inr (refl, e)
@@ -73,7 +73,7 @@ pub record Takes (bytes text rest : List ℕ) : Type 0 where
 Takes-then : (a x b y c : List ℕ) → Takes a x b → Takes b y c → Takes a (x ++ y) c
 Takes-then a x b y c p q = record { parts = p.parts ∙ ap (λ (t : List ℕ). x ++ t) q.parts ∙ sym (append_assoc x y c); are = q.are }
 
--- a field: reading takes what writing gives, and each good value that was written is read again
+-- a field: reading consumes what writing produces, and each good value that was written is read again
 pub record IsField {X : Type 0} (read : Reader X) (write : X → List ℕ) (Good : X → Type 0) : Type 0 where
   pub takes : (bytes : List ℕ) (x : X) (rest : List ℕ) → AreBytes bytes → read bytes ≡ Some (x, rest) → Takes bytes (write x) rest
   pub again : (x : X) (rest : List ℕ) → Good x → read (write x ++ rest) ≡ Some (x, rest)

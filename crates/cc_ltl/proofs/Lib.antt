@@ -4,7 +4,8 @@ pub mod Checking
 pub mod Times
 -- What is read is what was written, and what was written is read again: for each kind of field.
 pub mod Fields
--- The same for moves, operations, blocks and whole functions.
+-- What is read is what was written, and what was written is read again: for moves, operations, blocks and whole
+-- functions.
 pub mod Spelled
 -- The moves of LTL are moves of a layer.
 pub mod Layer

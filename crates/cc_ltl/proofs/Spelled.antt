@@ -23,7 +23,7 @@ use Rattle.cc_ltl.proofs.Fields.{AreBytes, bind_some, which, when_some, Takes, I
 
 -- ---- a number before the fields
 
--- what the reader of a kind reads is spelled after the kind's number
+-- if a kind's reader reads a value from some bytes, the kind's number followed by what it read spells that value
 abbrev IsKind : {B : Type 0} → (B → List ℕ) → ℕ × Reader B → Type 0
 IsKind {B} spell kind = (bytes : List ℕ) (y : B) (rest : List ℕ) → AreBytes bytes → kind.1 bytes ≡ Some (y, rest) → Takes (kind.0 ∷ bytes) (spell y) rest
 
@@ -42,7 +42,7 @@ chosen_takes spell (kind ∷ kinds) all number bytes y rest are e =
       | inr p ↦ chosen_takes spell kinds all.1 number bytes y rest are p.1
     ]
 
--- a number, followed by what the reader that belongs to it reads
+-- reading a number, and then with the reader that belongs to it, takes what the value spells
 numbered_takes : {B : Type 0} (spell : B → List ℕ) (kinds : List (ℕ × Reader B)) → AllByRecursion (IsKind spell) kinds → (bytes : List ℕ) (y : B) (rest : List ℕ) → AreBytes bytes
     → (byte_in bytes >>= λ k. chosen kinds k.0 k.1) ≡ Some (y, rest) → Takes bytes (spell y) rest
 numbered_takes spell kinds all [] y rest are e = absurd (none-some (y, rest) e)

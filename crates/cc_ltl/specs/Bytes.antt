@@ -90,7 +90,7 @@ pub record Spells (bytes : List ℕ) (ltl : Ltl) : Type 0 where
   pub spelled : bytes ≡ ltl_bytes ltl
   pub is_ltl : IsLtl ltl
 
--- what reading answers: the function that the bytes spell, or Damaged, which only comes if they spell no function
+-- what reading answers: the function that the bytes spell, or Damaged, but only if they spell none
 abbrev pub ReadAnswers : (bytes : List ℕ) → Result Ltl LtlFault → Type 0
 ReadAnswers bytes (Ok ltl) = Spells bytes ltl
 ReadAnswers bytes (Err Damaged) = (ltl : Ltl) → Spells bytes ltl → ⊥

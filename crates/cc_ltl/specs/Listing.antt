@@ -18,7 +18,7 @@ register_text r = codes "x" ++ decimal r
 abbrev pub slot_text : ℕ → List ℕ
 slot_text i = codes "slot" ++ decimal i
 
--- the target, then what is put there
+-- the target, then what is moved to it
 abbrev pub assigned : (to from : List ℕ) → List ℕ
 assigned to from = to ++ codes " = " ++ from
 

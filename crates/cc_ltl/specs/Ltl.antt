@@ -14,7 +14,7 @@ use Rattle.cc_ltl.specs.declared.operation.Operation.{Operation}
 use Rattle.cc_ltl.specs.declared.operation.Operation.TheVariants.{Nop, Const, Unary, Binary, Load, Store, Call, Read, Write, Branch, Return}
 use Rattle.cc_ltl.specs.declared.block.Block.{Block}
 
--- a function: its number of slots, the label of its first block, and its blocks
+-- a function: its number of slots, the label of the block at which it begins, and its blocks
 pub record Ltl : Type 0 where
   pub slots : ℕ
   pub entry : ℕ
@@ -48,7 +48,7 @@ IsOperation (Write next) = IsWord next
 IsOperation (Branch from if_nonzero if_zero) = IsAllocatable from × IsWord if_nonzero × IsWord if_zero
 IsOperation Return = Unit {0}
 
--- the operation has exactly one next block: it is no branch and no return
+-- the operation has exactly one next block: it is neither a branch nor a return
 abbrev pub goes_on : Operation → Bool
 goes_on (Branch from if_nonzero if_zero) = false
 goes_on Return = false
@@ -85,8 +85,7 @@ pub record IsLtl (ltl : Ltl) : Type 0 where
 abbrev pub Locations : Type 0
 Locations = Location → ℕ
 
--- the state of a run: the label of the next block, the words of the locations, the shared world, and the words that will come
--- in locations whose word is unknown
+-- the state of a run: the next block's label, the words of the locations, the shared world, and the words that unknown locations get
 pub record Configuration : Type 0 where
   pub label : ℕ
   pub locations : Locations
@@ -99,7 +98,7 @@ same_location (Slot a) (Slot b) = a == b
 same_location (Register a) (Slot b) = false
 same_location (Slot a) (Register b) = false
 
--- a word is put into a location
+-- the locations after a word is put into one of them
 abbrev pub put : Location → (word : ℕ) → Locations → Locations
 put to word at l = if same_location to l then word else at l
 
@@ -177,7 +176,7 @@ abbrev pub ltl_move : (arity : ℕ → ℕ) → Ltl → Configuration → Moving
 ltl_move arity ltl c =
     tried (block_at ltl.blocks c.label) (λ (block : Block). operate arity block.operation block.after (moved block.before c.locations) c.world c.words)
 
--- what is written so far
+-- what has been written so far
 abbrev pub ltl_output : Configuration → List ℕ
 ltl_output c = c.world.output
 

@@ -13,7 +13,7 @@ pub struct Moves {
     moves: Vec<Move>,
 }
 
-// Written by hand, so that crates above can call it and need not prove again how each part is dropped.
+// Written by hand, so that crates above can call this `drop` and need not prove again how each part is dropped.
 impl Drop for Moves {
     fn drop(self) {
         let Moves { moves } = self;
@@ -32,7 +32,7 @@ impl Model for Moves {
 }
 
 impl Moves {
-    /// Makes a list of these moves. If there are more than 65,535, it fails and hands the moves back. It takes no memory.
+    /// Makes a list of these moves. Fails and hands the moves back if there are more than 65,535. Takes no memory.
     pub fn new(moves: Vec<Move>) -> Result<Self, Vec<Move>>
         ensures fits { IsOk result ↔ (length moves.items < 2 ^ 16) }
         ensures hands_back { MatchResult result (λ made. made ≡ moves.items) (λ back. back ≡ moves) }

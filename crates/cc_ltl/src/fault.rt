@@ -19,7 +19,7 @@ pub enum LtlFault {
 impl LtlFault {
     ghost use Rattle.cc_ltl.specs.Fault.{fault_number};
 
-    /// The fault's number.
+    /// The fault's number: 37 or 40.
     pub fn number(&self) -> u32
         ensures { result ≡ fault_number self.now }
     {

@@ -27,7 +27,7 @@ impl fmt::Display for Slot {
     }
 }
 
-/// The target, then what is put there: `x8 = slot0`.
+/// The target, then what is moved to it: `x8 = slot0`.
 impl fmt::Display for Move {
     ghost output = { λ m. Some (move_text m) };
 
@@ -124,8 +124,8 @@ impl fmt::Display for Next {
     }
 }
 
-/// The label, then the moves and the operation in their order, then the blocks that come next: `3: x7 = slot0; x7 = neg x7;
-/// slot1 = x7 -> 4`.
+/// The label, then the moves and the operation in order, then the blocks that come next:
+/// `3: x7 = slot0; x7 = neg x7; slot1 = x7 -> 4`.
 impl fmt::Display for Block {
     ghost output = { λ b. Some (block_text b) };
 

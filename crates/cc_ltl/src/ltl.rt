@@ -9,16 +9,16 @@ use crate::location::MOST_SLOTS;
 use crate::operation::{Move, Operation};
 use std::marker::Model;
 
-/// A function: its number of slots, the label of its first block, and its blocks in ascending order of their labels. The values
-/// of this type are exactly the functions that bytes can spell: at most 495 slots, each slot below the function's number of
-/// slots, and no moves after a branch or a return. Contracts see these parts.
+/// A function: its number of slots, the label of the block at which it begins, and its blocks in ascending order of their
+/// labels. The values of this type are exactly the functions that bytes can spell: at most 495 slots, each slot below the
+/// function's number of slots, and no moves after a branch or a return. Contracts see these parts.
 pub struct Ltl {
     slots: u16,
     entry: u32,
     blocks: Vec<Block>,
 }
 
-// Written by hand, so that crates above can call it and need not prove again how each part is dropped.
+// Written by hand, so that crates above can call this `drop` and need not prove again how each part is dropped.
 impl Drop for Ltl {
     fn drop(self) {
         let Ltl {
@@ -42,7 +42,7 @@ impl Model for Ltl {
 impl Ltl {
     /// Makes a function of these parts. Fails and hands the blocks back if the parts make no function: more than 495 slots,
     /// labels that do not ascend, a slot that is not below the number of slots, moves after a branch or a return, or 2^32
-    /// blocks or more. It takes no memory.
+    /// blocks or more. Takes no memory.
     pub fn new(slots: u16, entry: u32, blocks: Vec<Block>) -> Result<Self, Vec<Block>>
         ensures fits { IsOk result ↔ IsLtl (record { slots = slots; entry = entry; blocks = blocks.items }) }
         ensures hands_back { MatchResult result (λ ltl. ltl ≡ record { slots = slots; entry = entry; blocks = blocks.items }) (λ back. back ≡ blocks) }
@@ -68,7 +68,7 @@ impl Ltl {
         self.slots
     }
 
-    /// The label of the function's first block.
+    /// The label of the block at which the function begins.
     pub fn entry(&self) -> u32
         ensures { result ≡ self.now.entry }
     {
@@ -130,7 +130,7 @@ fn block_fits(slots: u16, block: &Block) -> bool
 }
 
 // Whether the operation has no single next block: it is a branch or a return. The other facts about an operation hold by its
-// type. The code reads the numbers only so that the proof sees their ranges.
+// type. The code reads the operation's numbers only so that the proof sees their ranges.
 fn ends(operation: &Operation) -> bool
     ensures ends { result ≡ not (goes_on operation.now) }
     ensures operation { IsOperation operation.now }

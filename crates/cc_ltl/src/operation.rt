@@ -13,7 +13,7 @@ pub enum Move {
 }
 
 /// The operation of a block, and the label of the next block. A call takes its arguments in `x10` and the registers after it,
-/// and puts its result in `x10`. A read puts its word in `x10`; a write and a return take theirs from there.
+/// and leaves its result in `x10`. A read leaves its word in `x10`; a write and a return take theirs from `x10`.
 #[derive(Clone, Copy)]
 pub enum Operation {
     Nop {

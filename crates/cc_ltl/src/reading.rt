@@ -1,5 +1,5 @@
-// Reads the function that bytes spell, from left to right. No memory is reserved because of a number in the bytes. A list grows
-// only by what was read, so bytes that state a false length cost no more than the bytes that are there.
+// Reads the function that bytes spell, from left to right. No memory is reserved on the strength of a number in the bytes. A
+// list grows only by what was read, so bytes that state a false length cost no more than the bytes that are there.
 
 ghost use Rattle.std.specs.Prelude.{◌≡◌, length, IfOk};
 ghost use Rattle.cc_ltl.specs.Bytes.{ReadAnswers};

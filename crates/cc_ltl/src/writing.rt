@@ -143,7 +143,7 @@ fn put_operation(bytes: &mut Vec<u8>, operation: &Operation) -> Result<(), Alloc
     }
 }
 
-// Writes the bytes `prefix`, and a number of four bytes.
+// Writes the bytes `prefix`, then a four-byte number.
 fn put(bytes: &mut Vec<u8>, prefix: &[u8], number: u32) -> Result<(), AllocError>
     ensures { OnOk result (bytes.new.items ≡ bytes.old.items ++ (prefix.now ++ word_bytes number)) }
 {

@@ -61,7 +61,7 @@ module _ (form : FormTree) (cs : List Activation) (total : ℕ) where
 
   -- ---- variables
 
-  -- what the two kinds of instruction store in a variable
+  -- the instructions of a plain assignment and of an update store in the variable what the source stores
   pub record Stores (v : Environment) (most : ℕ) (vs : List ℕ) (s : State) (x : List ℕ) : Type 0 where
     pub variables : ℕ → List ℕ
     pub fits : (w : ℕ) → Fits v total most (variables w) (stored x w s)
@@ -122,7 +122,7 @@ module _ (form : FormTree) (cs : List Activation) (total : ℕ) where
   pub stores : (v : Environment) (most : ℕ) (vs : List ℕ) (s : State) (x : List ℕ) → Fits v total most vs s → Readable v x → Stores v most vs s x
   stores v most vs s x h r = elim r [ inl q ↦ stores_local v most vs s x q.0 h q.1 | inr q ↦ stores_global v most vs s x h q.0 q.1 ]
 
-  -- an operator's value, stored in a variable
+  -- an update of a variable stores the operator's value in it
   update_by : (v : Environment) (most : ℕ) (vs : List ℕ) (op : BinaryOperator) (t : Scalar) (x : List ℕ) (p w : ℕ) (s : State) (o : Option ℕ) → IsPlain op → binary_word op t (variable_word x s) w ≡ o
       → (q : Stores v most vs s x) → slice_get form.code p ≡ Some (store_of (Some (operation op t)) v x)
       → Meets form (conf p vs (w ∷ []) cs s) (Acted form cs total (conf p vs (w ∷ []) cs s) v most (p + 1)) (then_do (given op o s) (λ new y. Gives Falls (stored x new y)))
@@ -148,7 +148,7 @@ module _ (form : FormTree) (cs : List Activation) (total : ℕ) where
 
   -- ---- elements
 
-  -- a write to an element, whether or not the index is in the array
+  -- a write to an element does what the source does, whether or not the index is in the array
   element_set_by : (v : Environment) (most : ℕ) (vs : List ℕ) (x : List ℕ) (i p w : ℕ) (s : State) (b : Bool) → nat_lt i (extent_of v.layout.objects x).length ≡ b → Fits v total most vs s
       → slice_get form.code p ≡ Some (instruction.SetElement (extent_of v.layout.objects x)) → (b ≡ true → Puts v total most vs s x i w)
       → Meets form (conf p vs (w ∷ i ∷ []) cs s) (Acted form cs total (conf p vs (w ∷ i ∷ []) cs s) v most (p + 1)) (if b then Gives Falls (record s { globals = with_element x i w s.globals }) else Wrong Index s.output)
@@ -177,7 +177,7 @@ module _ (form : FormTree) (cs : List Activation) (total : ℕ) where
   in_array : (v : Environment) (i : ℕ) (x : List ℕ) → nat_lt i (extent_of v.layout.objects x).length ≡ true → i < (extent_of v.layout.objects x).length
   in_array v i x e = elim (leb_tells (suc i) (extent_of v.layout.objects x).length) [ inl t ↦ t.1 | inr t ↦ absurd (let f : true ≡ false = sym e ∙ t.0 in cc) ]
 
-  -- the element that an update reads, and the operator's value
+  -- an update of an element reads the element and computes the operator's value
   element_move : (v : Environment) (most : ℕ) (vs : List ℕ) (op : BinaryOperator) (t : Scalar) (x : List ℕ) (i p w old : ℕ) (s : State) (o : Option ℕ) → IsPlain op → binary_word op t old w ≡ o
       → nat_lt i (extent_of v.layout.objects x).length ≡ true → slice_get (all_of s.globals) ((extent_of v.layout.objects x).offset + i) ≡ Some old
       → instruction_move form (instruction.Update (operation op t) (slot.Element (extent_of v.layout.objects x))) (conf p vs (w ∷ i ∷ []) cs s)

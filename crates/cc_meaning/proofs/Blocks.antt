@@ -1,4 +1,4 @@
--- How a statement ends, in the resolved form; scopes and lists of locals.
+-- How a statement ends in the resolved form, and how scopes and lists of locals are represented there.
 use Rattle.std.proofs.Common.{◌≡◌, ℕ, zero, suc, ◌+◌, ◌-◌, ◌≤◌, List, [], ◌∷◌, ◌++◌, length, reverse, take, drop, Some, slice_get, refl, sym, ap, ◌∙◌, subst, arith, length-append, append_assoc, take-append-drop}
 use Rattle.std.proofs.lemmas.List.{length-map, reverse-append, map-append, drop_at}
 use Rattle.cc_meaning.specs.declared.form.Instruction.TheVariants as instruction
@@ -39,7 +39,7 @@ names_drop zero ls = refl
 names_drop (suc d) [] = refl
 names_drop (suc d) (l ∷ ls) = names_drop d ls
 
--- after a scope, when no name refers to its locals any more
+-- variables that fit inside a scope also fit after it, when no name refers to the scope's locals
 pub fits_left : (v : Environment) (extra : List (List ℕ)) (total most before : ℕ) (vs : List ℕ) (t : State) → before ≡ length v.locals → Fits (over extra v) total most vs t → Fits v total most vs (left_scope before t)
 fits_left v extra total most before vs t e h =
     let ls : List Local = t.locals in
@@ -61,20 +61,21 @@ fits_left v extra total most before vs t e h =
 -- ---- how a statement ends
 
 module _ (form : FormTree) (cs : List Activation) (total : ℕ) where
-  -- the form reaches a place, in an environment
+  -- from `c`, the form reaches the place `q` with the state `t`, in the environment `v`
   pub record Reaches (c : Configuration) (v : Environment) (most q : ℕ) (t : State) : Type 0 where
     pub variables : List ℕ
     pub fits : Fits v total most variables t
     pub leads : Leads form c (conf q variables [] cs t)
 
-  -- the form reaches a place with locals of inner scopes, which are dropped
+  -- from `c`, the form reaches `q` with the state `t`, which has further locals of inner scopes; no name
+  -- refers to those after that
   pub record Leaves (c : Configuration) (v : Environment) (most q : ℕ) (t : State) : Type 0 where
     pub extra : List (List ℕ)
     pub variables : List ℕ
     pub fits : Fits (over extra v) total most variables t
     pub leads : Leads form c (conf q variables [] cs t)
 
-  -- the form reaches a return of a word
+  -- from `c`, the form reaches a return of the word `w`
   pub record Brings (layout : Layout) (c : Configuration) (most w : ℕ) (t : State) : Type 0 where
     pub offset : ℕ
     pub variables : List ℕ
@@ -109,7 +110,7 @@ module _ (form : FormTree) (cs : List Activation) (total : ℕ) where
   done_by layout c d most more f b k f' b' k' p le x y z Continues t h = z t h
   done_by layout c d most more f b k f' b' k' p le x y z (Returns w) t h = brings_after layout c d most more w t p le h
 
-  -- a part that begins after some moves ends in the same ways
+  -- if a part ends in these ways from `d`, and `c` leads to `d`, the part ends in the same ways from `c`
   pub done_after : (layout : Layout) (c d : Configuration) (most more : ℕ) (f b k f' b' k' : State → Type 0) (r : Run Flow) → Leads form c d → most ≤ more
       → ((t : State) → f t → f' t) → ((t : State) → b t → b' t) → ((t : State) → k t → k' t) → Meets form d (Done layout d most f b k) r → Meets form c (Done layout c more f' b' k') r
   done_after layout c d most more f b k f' b' k' r p le x y z h =

@@ -83,7 +83,7 @@ module _ (form : FormTree) (layout : Layout) (defined : List (List ℕ)) (fs : L
 
   -- ---- the body of a function
 
-  -- a body reaches a return of its word, over the calls around it
+  -- a body reaches a return of its word, with the calls around it unchanged
   record Returned (cs : List Activation) (c : Configuration) (most w : ℕ) (t : State) : Type 0 where
     offset : ℕ
     variables : List ℕ
@@ -116,7 +116,7 @@ module _ (form : FormTree) (layout : Layout) (defined : List (List ℕ)) (fs : L
   flow_returns cs total c v most q b k (Returns w) t pl e e' eb ek h =
       record { offset = h.offset; variables = h.variables; operands = h.operands; here = h.here; leads = h.leads; laid = h.laid; steps = h.steps }
 
-  -- a body in a frame of its own
+  -- a body in its own frame does what the source's body does
   body_meets : (cs : List Activation) (n : ℕ) (call : Calls) → ((total : ℕ) → CallsMeet form layout TakesHere cs total n call) → (g : Function) (fc : FunctionCode) (d : Defined layout defined fs g fc) (p most : ℕ) (ws : List ℕ) (t : State)
       → length ws ≡ length g.parameters → Stands form.code p fc.code → most < n → t.steps ≤ most → layout_from 0 t.globals ≡ layout.objects
       → Meets form (conf p (ws ++ replicate fc.variables 0) [] cs t) (λ flow u. Returned cs (conf p (ws ++ replicate fc.variables 0) [] cs t) most (result_of flow) u)
@@ -194,7 +194,7 @@ module _ (form : FormTree) (layout : Layout) (defined : List (List ℕ)) (fs : L
 
   -- ---- functions
 
-  -- a frame is made from the arguments
+  -- entering a function makes the arguments its first variables and gives the caller a frame
   entering : (start variables left p : ℕ) (ws vs ops : List ℕ) (cs : List Activation) (s : State) (count : ℕ) → count ≡ length ws
       → entered (record { start = start; parameters = count; variables = variables }) left (conf p vs (reverse ws ++ ops) cs s)
       ≡ Goes (conf start (ws ++ replicate variables 0) [] (record { next = p; variables = vs; operands = ops } ∷ cs) (record s { steps = left }))
@@ -209,7 +209,7 @@ module _ (form : FormTree) (layout : Layout) (defined : List (List ℕ)) (fs : L
       ∙ ap (λ l. made (reverse ws) l) (drop_at (reverse ws) ops (length ws) size)
       ∙ ap (λ (l : List ℕ). Goes (conf start (l ++ replicate variables 0) [] (record { next = p; variables = vs; operands = ops } ∷ cs) t)) (reverse-reverse ws)
 
-  -- a return to the caller
+  -- a return pushes its word for the caller
   returns_to : (cs : List Activation) (total : ℕ) (v : Environment) (p most left w : ℕ) (vs ops : List ℕ) (s t : State) (c : Configuration) → v.layout ≡ layout → left ≤ most → Fits v total most vs s
       → Returned (record { next = p; variables = vs; operands = ops } ∷ cs) c left w t → Value form cs total c v most vs p ops w (record t { locals = s.locals })
   returns_to cs total v p most left w vs ops s t c pl le h r =
@@ -220,13 +220,13 @@ module _ (form : FormTree) (layout : Layout) (defined : List (List ℕ)) (fs : L
             (instructed form instruction.Return r.offset r.variables (w ∷ r.operands) (a ∷ cs) t (conf p vs (w ∷ ops) cs (record t { locals = s.locals })) r.here refl);
       }
 
-  -- the move of a call
+  -- the move of `Call` is that of a call of the named function
   call_moves : (x : List ℕ) (e : Entered form layout defined fs x) (v : Environment) (c : Configuration) → v.layout ≡ layout
       → instruction_move form (instruction.Call (names_before v.layout.functions x)) c
       ≡ call_move (Some (record { start = e.start; parameters = e.code.parameters; variables = e.code.variables })) c
   call_moves x e v c pl = ap (λ (q : Layout). call_move (slice_get form.functions (names_before q.functions x)) c) pl ∙ ap (λ o. call_move o c) e.entry
 
-  -- after the step of a call
+  -- once a call has spent its step, it does what the source's call does
   entered_by : (cs : List Activation) (total m : ℕ) (ih : (cs : List Activation) (total : ℕ) → CallsMeet form layout TakesHere cs total m (calls m fs (1 + length cs))) (v : Environment) (f ws : List ℕ) (p : ℕ) (vs ops : List ℕ) (s : State)
       (most left : ℕ) (allowed : Bool) (e : Entered form layout defined fs f) → v.layout ≡ layout → length e.function.parameters ≡ length ws → slice_get form.code p ≡ Some (instruction.Call (names_before v.layout.functions f))
       → Fits v total most vs s → most < suc m → s.steps ≡ suc left → nat_lt (1 + length cs) most_open ≡ allowed
@@ -313,7 +313,7 @@ module _ (form : FormTree) (layout : Layout) (defined : List (List ℕ)) (fs : L
 
   -- ---- main
 
-  -- a body that no other function calls: the run stops as the source does
+  -- the run of a body whose call has no caller stops as the source does
   pub main_meets : (n : ℕ) (e : (x : List ℕ) × Entered form layout defined fs x) (t : State) (opened : ℕ) → opened ≡ 1 → (e.1).function.parameters ≡ [] → t.steps < n → layout_from 0 t.globals ≡ layout.objects
       → Meets form (conf (e.1).start (replicate (e.1).code.variables 0) [] [] t) (λ w u. Halts form (conf (e.1).start (replicate (e.1).code.variables 0) [] [] t) (record { stop = outcome.Ended w; output = u.output }))
       (run_body (e.1).function n (calls n fs opened) [] t)

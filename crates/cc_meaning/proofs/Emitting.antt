@@ -2,15 +2,15 @@
 use Rattle.std.proofs.Common.{◌≡◌, ℕ, zero, suc, ◌+◌, ◌-◌, ◌<◌, ◌≤◌, List, [], ◌∷◌, ◌++◌, length, reverse, set, sym, ap, ◌∙◌, arith}
 use Rattle.std.proofs.lemmas.List.{reverse-append, length-reverse, set-append_left, set-append_right}
 
--- a further instruction comes before the others
+-- an instruction that is pushed comes before the others in the reversed list
 pub reverse-push : {A : Type 0} (xs : List A) (x : A) → reverse (xs ++ x ∷ []) ≡ x ∷ reverse xs
 reverse-push xs x = reverse-append xs (x ∷ [])
 
--- an instruction kept at the start comes after the others
+-- an instruction at the start of the list comes after the others in the reversed list
 pub reverse-prefix : {A : Type 0} (x : A) (xs : List A) → reverse (x ∷ xs) ≡ reverse xs ++ x ∷ []
 reverse-prefix x xs = reverse-append (x ∷ []) xs
 
--- the place of an instruction, counted from the other end
+-- in the reversed list, the place of a changed instruction is counted from the other end
 pub reverse-set : {A : Type 0} (xs : List A) (k : ℕ) (v : A) → k < length xs → reverse (set xs k v) ≡ set (reverse xs) (length xs - (k + 1)) v
 reverse-set [] k v h = absurd (omega arith)
 reverse-set (x ∷ xs) zero v h =

@@ -21,13 +21,13 @@ use Rattle.cc_meaning.proofs.Expressions.{Value, Values, CallsMeet, Part, value_
 use Rattle.cc_c_semantics.proofs.Scoped.{Scoped}
 
 module _ (form : FormTree) (cs : List Activation) (total : ℕ) (layout : Layout) (defined : List (List ℕ)) (Takes : List ℕ → ℕ → Type 0) (n : ℕ) (call : Calls) (calls_meet : CallsMeet form layout Takes cs total n call) where
-  -- arguments, one after another
+  -- the instructions of arguments push the arguments' values, one after another
   abbrev Arguments : Environment → (most : ℕ) (vs : List ℕ) → Exprs → Type 0
   Arguments v most vs es =
       (p : ℕ) (ops : List ℕ) (s : State) → Stands form.code p (arguments_code v es) → Fits v total most vs s
       → Meets form (conf p vs ops cs s) (Values form cs total (conf p vs ops cs s) v most vs (p + length (arguments_code v es)) (count_of es) ops) (evaluate_all es (types_in v) call s)
 
-  -- the value of an index, and the instruction after it
+  -- if the instructions of an index push its value, those of the element push the element's value
   element_part : (e : Expr) (x : Name) (v : Environment) (most : ℕ) (vs : List ℕ) → Part form cs total v most vs (expression_code v e) (evaluate e (types_in v) call)
       → Part form cs total v most vs (expression_code v (Element x e)) (evaluate (Element x e) (types_in v) call)
   element_part e x v most vs f p ops s st h =

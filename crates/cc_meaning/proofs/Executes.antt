@@ -26,7 +26,7 @@ use Rattle.cc_meaning.proofs.Blocks.{over, fits_env, Reaches, Leaves, Done, done
 use Rattle.cc_meaning.proofs.Loops.{Loop, turns_length, loop_stands, turns_meet, begins_meet}
 use Rattle.cc_c_semantics.proofs.Scoped.{Scoped, scoped_inner, with_locals_visible, with_locals_layout, with_locals_length, with_locals_over, scoped_locals, behind_is}
 
--- after the first part of a `for` header
+-- the environment after the first part of a `for` header
 record BehindBeginning (layout : Layout) (defined : List (List ℕ)) (Takes : List ℕ → ℕ → Type 0) (s : Beginning) (v : Environment) : Type 0 where
   visible : (behind_beginning s v).visible ≡ scope_behind_beginning s v.visible
   laid : (behind_beginning s v).layout ≡ v.layout
@@ -55,27 +55,27 @@ return_value : (r : Option Scalar) (bs : List Binding) (at : ℕ) (e : Expr) →
 return_value None bs at e h = nil_right (broken BadReturn at) (value_errors bs e) h
 return_value (Some t) bs at e h = h
 
--- what never happens
+-- the condition for an ending that never happens
 abbrev Never : State → Type 0
 Never t = ⊥
 
 module _ (form : FormTree) (cs : List Activation) (total : ℕ) (layout : Layout) (defined : List (List ℕ)) (Takes : List ℕ → ℕ → Type 0) (n : ℕ) (call : Calls) (calls_meet : CallsMeet form layout Takes cs total n call) where
-  -- instructions that do what a statement does, at any place in the code; `falls` says what it means to fall through
+  -- the instructions do what the statement does, at any place in the code; `falls` says what it means to fall through
   abbrev Does : (falls : Configuration → ℕ → State → Type 0) → Environment → Exits → (most : ℕ) → List Instruction → (State → Run Flow) → Type 0
   Does falls v x most code part =
       (p b k : ℕ) (vs : List ℕ) (t : State) → b ≡ p + length code + x.breaks → k ≡ p + length code + x.continues → b ≤ length form.code → k ≤ length form.code → Stands form.code p code → Fits v total most vs t
       → Meets form (conf p vs [] cs t)
       (Done form cs total layout (conf p vs [] cs t) most (falls (conf p vs [] cs t) (p + length code)) (Leaves form cs total (conf p vs [] cs t) v most b) (Leaves form cs total (conf p vs [] cs t) v most k)) (part t)
 
-  -- a statement with the environment after it
+  -- the instructions do what a statement does, and `w` is the environment after it
   abbrev StatementDoes : Environment → Environment → Exits → ℕ → List Instruction → (State → Run Flow) → Type 0
   StatementDoes v w x most code part = Does (λ c q t. Reaches form cs total c w most q t) v x most code part
 
-  -- a list of statements
+  -- the instructions do what a list of statements does
   abbrev ListDoes : Environment → Exits → ℕ → List Instruction → (State → Run Flow) → Type 0
   ListDoes v x most code part = Does (λ c q t. Leaves form cs total c v most q t) v x most code part
 
-  -- a part in a scope of its own: however it ends, the earlier locals are left
+  -- the instructions do what a part in its own scope does: however it ends, only the earlier locals remain
   abbrev BlockDoes : Environment → Exits → ℕ → List Instruction → (State → Run Flow) → Type 0
   BlockDoes v x most code part =
       (p b k : ℕ) (vs : List ℕ) (t : State) → b ≡ p + length code + x.breaks → k ≡ p + length code + x.continues → b ≤ length form.code → k ≤ length form.code → Stands form.code p code → Fits v total most vs t
@@ -103,7 +103,7 @@ module _ (form : FormTree) (cs : List Activation) (total : ℕ) (layout : Layout
       done_after form cs total layout c c most most (Reaches form cs total c w most q) (Leaves form cs total c v most b) (Leaves form cs total c v most k) (Leaves form cs total c v most q) (Leaves form cs total c v most b) (Leaves form cs total c v most k) (part t)
       (leads_refl form c) (omega arith) (λ u y. reaches_leaves form cs total c c w v extra most most q q u (leads_refl form c) e pl (omega arith) refl y) (λ u y. y) (λ u y. y) (f p b k vs t eb ek lb lk st h)
 
-  -- the body of a branch or a loop, which is a statement in a scope of its own
+  -- the instructions of a branch's or a loop's body, which is a statement in its own scope, do what the body does
   block_of_statement : (s : Stmt) (v : Environment) (x : Exits) (most : ℕ) (code : List Instruction) (part : State → Run Flow) → Scoped layout defined Takes v → StatementDoes (inner v) (behind s (inner v)) x most code part
       → BlockDoes v x most code (in_block part)
   block_of_statement s v x most code part scoped f =
@@ -118,7 +118,7 @@ module _ (form : FormTree) (cs : List Activation) (total : ℕ) (layout : Layout
       (leads_refl form c) (omega arith) (λ u y. y) (λ u y. reaches_leaves form cs total c c v v [] most most b b u (leads_refl form c) refl refl (omega arith) refl y)
       (λ u y. reaches_leaves form cs total c c v v [] most most k k u (leads_refl form c) refl refl (omega arith) refl y) (f p b k vs t eb ek lb lk st h)
 
-  -- a part that only falls through
+  -- a part that only falls through ends as a statement may
   falls_done : (c : Configuration) (v : Environment) (most q : ℕ) (b k : State → Type 0) (flow : Flow) (t : State) → Acted form cs total c v most q flow t → Done form cs total layout c most (Reaches form cs total c v most q) b k flow t
   falls_done c v most q b k flow t h =
       subst (λ f. Done form cs total layout c most (Reaches form cs total c v most q) b k f t) (sym h.falls) (record { variables = h.variables; fits = h.fits; leads = h.leads })
@@ -174,7 +174,7 @@ module _ (form : FormTree) (cs : List Activation) (total : ℕ) (layout : Layout
 
   -- ---- if
 
-  -- after the condition of an `if`
+  -- after its condition, an `if` without `else` does what the source says
   arm_meets : (v : Environment) (x : Exits) (most p b k w : ℕ) (vs : List ℕ) (arm : List Instruction) (part : State → Run Flow) (t : State) → BlockDoes v x most arm part
       → slice_get form.code p ≡ Some (instruction.JumpIfZero (length arm)) → Stands form.code (p + 1) arm → b ≡ p + 1 + length arm + x.breaks → k ≡ p + 1 + length arm + x.continues → b ≤ length form.code → k ≤ length form.code → Fits v total most vs t
       → Meets form (conf p vs (w ∷ []) cs t) (Done form cs total layout (conf p vs (w ∷ []) cs t) most (Reaches form cs total (conf p vs (w ∷ []) cs t) v most (p + 1 + length arm))
@@ -278,7 +278,7 @@ module _ (form : FormTree) (cs : List Activation) (total : ℕ) (layout : Layout
   FollowingDoes v following part =
       (most : ℕ) → most < n → (p : ℕ) (vs : List ℕ) (t : State) → Stands form.code p following → Fits v total most vs t → Meets form (conf p vs [] cs t) (Acted form cs total (conf p vs [] cs t) v most (p + length following)) (part t)
 
-  -- the turns of a loop at p, from its test on
+  -- the turns of a loop at p, beginning with its test, do what the source's turns do
   turns_there : (v : Environment) (body following test : List Instruction) (condition : State → Run ℕ) (inside part : State → Run Flow) (p : ℕ) → v.layout ≡ layout → Loop form.code body following test p
       → TestDoes v test condition → BodyDoes v (exits_of_body following test) body inside → FollowingDoes v following part → (i most : ℕ) (vs : List ℕ) (t : State) → most < i → most < n → Fits v total most vs t
       → Meets form (conf (p + 1 + length body + length following) vs [] cs t)
@@ -290,7 +290,7 @@ module _ (form : FormTree) (cs : List Activation) (total : ℕ) (layout : Layout
       (λ fewer vs' u lt' fits. bodies fewer lt' (p + 1) (p + 1 + length body + length following + length test + 1) (p + 1 + length body) vs' u (omega arith) (omega arith) (omega arith) (omega arith) loop.has_body fits)
       (λ fewer vs' u lt' fits. follows fewer lt' (p + 1 + length body) vs' u loop.has_following fits) lt less h
 
-  -- a loop that is tested first
+  -- a loop that is tested first does what the source's loop does
   loop_meets : (v : Environment) (body following test : List Instruction) (condition : State → Run ℕ) (inside part : State → Run Flow) → v.layout ≡ layout
       → TestDoes v test condition → BodyDoes v (exits_of_body following test) body inside → FollowingDoes v following part → (most p : ℕ) (vs : List ℕ) (t : State) → most < n → Stands form.code p (loop_code body following test) → Fits v total most vs t
       → Meets form (conf p vs [] cs t) (Done form cs total layout (conf p vs [] cs t) most (Reaches form cs total (conf p vs [] cs t) v most (p + length (loop_code body following test))) Never Never) (turns (suc n) condition inside part t)
@@ -309,7 +309,7 @@ module _ (form : FormTree) (cs : List Activation) (total : ℕ) (layout : Layout
       (λ u y. reaches_after form cs total c d v v most most q end_at u to refl refl (omega arith) (omega arith) y) (λ u y. y) (λ u y. y)
       (turns_there v body following test condition inside part at pl loop tests bodies follows (suc n) most vs t (omega arith) lt h)
 
-  -- a loop that is tested after its body
+  -- a loop that is tested after its body does what the source's loop does
   do_meets : (v : Environment) (body test : List Instruction) (condition : State → Run ℕ) (inside : State → Run Flow) → v.layout ≡ layout
       → TestDoes v test condition → BodyDoes v (exits_of_body [] test) body inside → (most p : ℕ) (vs : List ℕ) (t : State) → most < n → Stands form.code p (turns_code body [] test) → Fits v total most vs t
       → Meets form (conf p vs [] cs t) (Done form cs total layout (conf p vs [] cs t) most (Reaches form cs total (conf p vs [] cs t) v most (p + length (turns_code body [] test))) Never Never)
@@ -346,7 +346,8 @@ module _ (form : FormTree) (cs : List Activation) (total : ℕ) (layout : Layout
       done_after form cs total layout c c most most (Reaches form cs total c w most q) Never Never (Reaches form cs total c w most q) (Leaves form cs total c v most b) (Leaves form cs total c v most k) (part t) (leads_refl form c) (omega arith)
       (λ u y. y) (λ u y. absurd y) (λ u y. absurd y) (f p vs t st h)
 
-  -- one part that falls through, then a statement
+  -- the instructions of a part that only falls through, followed by those of a statement, do what the part and then the
+  -- statement do
   first_then : (v w : Environment) (x : Exits) (most : ℕ) (code others : List Instruction) (part : State → Run Flow) (rest : State → Run Flow)
       → ((p : ℕ) (vs : List ℕ) (t : State) → Stands form.code p code → Fits v total most vs t → Meets form (conf p vs [] cs t) (Acted form cs total (conf p vs [] cs t) w most (p + length code)) (part t))
       → (extra : List (List ℕ)) → w.locals ≡ extra ++ v.locals → w.layout ≡ v.layout → StatementDoes w w x most others rest → ListDoes v x most (code ++ others) (λ t. then_do (part t) (λ flow u. rest u))
@@ -365,7 +366,7 @@ module _ (form : FormTree) (cs : List Activation) (total : ℕ) (layout : Layout
       (λ y m. leaves_after form cs total c d w v extra most most b b y got.leads e pl (omega arith) refl m) (λ y m. leaves_after form cs total c d w v extra most most k k y got.leads e pl (omega arith) refl m)
       (g q b k got.variables u (omega arith) (omega arith) lb lk (stands_right form.code p q code others refl st) got.fits))
 
-  -- after a statement, the rest of a list
+  -- once a statement has ended, the list ends as the source says: with the rest of the list, or at once
   flow_meets : (v w : Environment) (x : Exits) (most q end_at b k : ℕ) (others : List Instruction) (rest : State → Run Flow) (extra : List (List ℕ)) (c : Configuration) (flow : Flow) (u : State) → w.locals ≡ extra ++ v.locals → w.layout ≡ v.layout
       → ListDoes w x most others rest → q + length others ≡ end_at → b ≡ q + length others + x.breaks → k ≡ q + length others + x.continues → b ≤ length form.code → k ≤ length form.code → Stands form.code q others
       → Done form cs total layout c most (Reaches form cs total c w most q) (Leaves form cs total c v most b) (Leaves form cs total c v most k) flow u
@@ -381,7 +382,7 @@ module _ (form : FormTree) (cs : List Activation) (total : ℕ) (layout : Layout
   flow_meets v w x most q end_at b k others rest extra c Continues u e pl g at eb ek lb lk st got = got
   flow_meets v w x most q end_at b k others rest extra c (Returns r) u e pl g at eb ek lb lk st got = got
 
-  -- a statement, then a list
+  -- the instructions of a statement, and then of a list, do what both do
   next_then : (v w : Environment) (x : Exits) (most : ℕ) (code others : List Instruction) (part rest : State → Run Flow) (extra : List (List ℕ)) → w.locals ≡ extra ++ v.locals → w.layout ≡ v.layout
       → StatementDoes v w (further (length others) x) most code part → ListDoes w x most others rest → ListDoes v x most (code ++ others) (λ t. then_do (part t) (λ flow u. behind_flow flow rest u))
   next_then v w x most code others part rest extra e pl f g p b k vs t eb ek lb lk st h =
@@ -404,7 +405,7 @@ module _ (form : FormTree) (cs : List Activation) (total : ℕ) (layout : Layout
   start_meets (Performs a) v most scoped lt o d room = λ p vs t st h.
       optional_meets form cs total layout defined Takes n call calls_meet a v most vs scoped lt o d p t st h
 
-  -- no instructions follow a loop's body
+  -- the empty list of instructions does what follows the body of a `while` or `do`: nothing
   nothing_follows : (v : Environment) → FollowingDoes v [] (λ u. Gives Falls u)
   nothing_follows v most lt p vs t st h = record {
     falls = refl;

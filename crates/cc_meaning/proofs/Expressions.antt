@@ -38,7 +38,7 @@ pub record Values (form : FormTree) (cs : List Activation) (total : ℕ) (c : Co
   pub many : length ws ≡ count
   pub leads : Leads form c (conf q vs (reverse ws ++ ops) cs t)
 
--- each call with the right number of words gives in the form what it gives in the source, if fewer than n steps are left
+-- each call with the right number of words does in the form what it does in the source, if fewer than n steps are left
 abbrev pub CallsMeet : FormTree → Layout → (List ℕ → ℕ → Type 0) → List Activation → (total n : ℕ) → Calls → Type 0
 CallsMeet form layout Takes cs total n call =
     (v : Environment) (f ws : List ℕ) (p : ℕ) (vs ops : List ℕ) (s : State) (most : ℕ)
@@ -46,7 +46,7 @@ CallsMeet form layout Takes cs total n call =
     → Meets form (conf p vs (reverse ws ++ ops) cs s) (Value form cs total (conf p vs (reverse ws ++ ops) cs s) v most vs (p + 1) ops) (call f ws s)
 
 module _ (form : FormTree) (cs : List Activation) (total : ℕ) where
-  -- instructions that do what an expression does, at any place in the code
+  -- the instructions do what the expression does, at any place in the code
   abbrev pub Part : Environment → (most : ℕ) (vs : List ℕ) → List Instruction → (State → Run ℕ) → Type 0
   Part v most vs code part =
       (p : ℕ) (ops : List ℕ) (s : State) → Stands form.code p code → Fits v total most vs s
@@ -59,7 +59,7 @@ module _ (form : FormTree) (cs : List Activation) (total : ℕ) where
       meets_after form c d (Value form cs total d v most vs q ops) (Value form cs total c v most vs q' ops) r p
       (λ w t x. record { fits = x.fits; leads = leads_then form c d (conf q' vs (w ∷ ops) cs t) p (subst (λ k. Leads form d (conf k vs (w ∷ ops) cs t)) e x.leads) }) h
 
-  -- an instruction that pushes a word
+  -- an instruction whose move pushes a word leads to a configuration with that word
   pub pushes : (v : Environment) (most : ℕ) (vs before ops : List ℕ) (p q w : ℕ) (s : State) (i : Instruction) → slice_get form.code p ≡ Some i → Fits v total most vs s → q ≡ p + 1
       → instruction_move form i (conf (p + 1) vs before cs s) ≡ Goes (conf (p + 1) vs (w ∷ ops) cs s)
       → Value form cs total (conf p vs before cs s) v most vs q ops w s
@@ -78,7 +78,7 @@ module _ (form : FormTree) (cs : List Activation) (total : ℕ) where
   element_by v most vs ops p i x s None e h is move = instructed_last form (instruction.Element (extent_of v.layout.objects x)) p vs (i ∷ ops) cs s (outcome.Wrong Index) e move
   element_by v most vs ops p i x s (Some w) e h is move = pushes v most vs (i ∷ ops) ops p (p + 1) w s (instruction.Element (extent_of v.layout.objects x)) e h refl move
 
-  -- what the instruction does, depending on what is in the array
+  -- the move of `Element`, depending on whether the array has the element
   element_move : (v : Environment) (most : ℕ) (vs ops : List ℕ) (p i : ℕ) (x : List ℕ) (s : State) → Fits v total most vs s
       → instruction_move form (instruction.Element (extent_of v.layout.objects x)) (conf p vs (i ∷ ops) cs s)
       ≡ elim (slice_get (global_words s.globals x) i) [ None ↦ Stops (outcome.Wrong Index) | Some w ↦ Goes (conf p vs (w ∷ ops) cs s) ]
@@ -115,7 +115,7 @@ module _ (form : FormTree) (cs : List Activation) (total : ℕ) where
   unary_leads v most vs ops p a unary.Complement s st h = pushes v most vs (a ∷ ops) ops p (p + 1) (unary_word unary.Complement a) s _ st.0 h refl refl
   unary_leads v most vs ops p a unary.Not s st h = pushes v most vs (a ∷ ops) ops p (p + 1) (unary_word unary.Not a) s _ st.0 h refl refl
 
-  -- a plain operator on two words
+  -- the instruction of a plain operator on two words pushes its value, or goes wrong as the source does
   given_by : (v : Environment) (most : ℕ) (vs ops : List ℕ) (p a b : ℕ) (op : BinaryOperator) (t : Scalar) (s : State) (o : Option ℕ) → IsPlain op
       → slice_get form.code p ≡ Some (instruction.Binary (operation op t)) → Fits v total most vs s → binary_word op t a b ≡ o
       → Meets form (conf p vs (b ∷ a ∷ ops) cs s) (Value form cs total (conf p vs (b ∷ a ∷ ops) cs s) v most vs (p + 1) ops) (given op o s)
@@ -127,7 +127,7 @@ module _ (form : FormTree) (cs : List Activation) (total : ℕ) where
       pushes v most vs (b ∷ a ∷ ops) ops p (p + 1) w s (instruction.Binary (operation op t)) e h refl
       (ap (λ (o : Option ℕ). elim o [ None ↦ Stops (outcome.Wrong (cause_of_operation (operation op t))) | Some x ↦ Goes (conf (p + 1) vs (x ∷ ops) cs s) ]) (plain.works t a b ∙ is))
 
-  -- both operands, then the operator
+  -- what an operator does in the source: first the operands that it needs, then the operator
   abbrev pub both_operands : BinaryOperator → Scalar → (State → Run ℕ) → (State → Run ℕ) → State → Run ℕ
   both_operands op t first second s =
       then_do (first s) (λ a u. unless_decided (decided op a) (λ x. then_do (second x) (λ b y. given op (binary_word op t a b) y)) u)
@@ -166,7 +166,7 @@ module _ (form : FormTree) (cs : List Activation) (total : ℕ) where
   true_word : (a : ℕ) → is_true (suc a) ≡ true
   true_word a = ap not (eqb-suc-zero a)
 
-  -- the end of `&&` or `||`: the right operand as 0 or 1
+  -- at the end of `&&` or `||`, the instructions push the right operand as 0 or 1
   truth_meets : (v : Environment) (most : ℕ) (vs ops : List ℕ) (p q : ℕ) (right : List Instruction) (second : State → Run ℕ) (op : BinaryOperator) (t : Scalar) (a : ℕ) (s : State)
       → ((b : ℕ) → binary_word op t a b ≡ Some (truth_value (is_true b))) → Part v most vs right second → Stands form.code p right → slice_get form.code (p + length right) ≡ Some instruction.Truth
       → q ≡ p + length right + 1 → Fits v total most vs s
@@ -268,7 +268,7 @@ module _ (form : FormTree) (cs : List Activation) (total : ℕ) where
       (unless_decided (decided LogicalOr a) (λ x. then_do (second x) (λ b y. given LogicalOr (binary_word LogicalOr t a b) y)) u) got.leads refl
       (or_behind v most vs ops (p + l) (p + length code) a t right second u g in_right.0 in_right.1 in_last.0 (omega arith) (stands_end form.code p code st) got.fits))
 
-  -- any operator of two operands
+  -- the instructions of any binary operator push its value
   pub binary_meets : (v : Environment) (most : ℕ) (vs : List ℕ) (op : BinaryOperator) (t : Scalar) (left right : List Instruction) (first second : State → Run ℕ) → Kind op
       → Part v most vs left first → Part v most vs right second → Part v most vs (joined op (operation op t) left right) (both_operands op t first second)
   binary_meets v most vs op t left right first second (IsAnd e) f g =
@@ -279,7 +279,7 @@ module _ (form : FormTree) (cs : List Activation) (total : ℕ) where
 
   -- ---- a conditional
 
-  -- a jump if a word is 0
+  -- `JumpIfZero` jumps if the word is 0
   pub branches : (n p q : ℕ) (vs ops : List ℕ) (s : State) → slice_get form.code p ≡ Some (instruction.JumpIfZero n) → q ≡ p + 1 + n → q ≤ length form.code
       → Leads form (conf p vs (zero ∷ ops) cs s) (conf q vs ops cs s)
   branches n p q vs ops s e at le =

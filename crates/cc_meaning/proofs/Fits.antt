@@ -13,7 +13,7 @@ use Rattle.cc_c_semantics.proofs.Held.{names_of, words_in, reads_local, no_local
 use Rattle.cc_meaning.proofs.Moves.{conf}
 use Rattle.cc_c_semantics.proofs.Scoped.{Readable}
 
--- the variables are the words of the locals, oldest first, followed by others that no name refers to; the objects are at their
+-- the variables are the words of the locals, oldest first, followed by words that no name refers to; the objects are at their
 -- places; at most this many steps are left
 pub record Fits (v : Environment) (total most : ℕ) (vs : List ℕ) (s : State) : Type 0 where
   pub names : names_of s.locals ≡ v.locals
@@ -68,7 +68,7 @@ stored_global : (x : List ℕ) (w : ℕ) (s : State) → local_word s.locals x �
 stored_global x w s e =
     ap (λ o. if is_some o then record s { locals = with_local_word x w s.locals } else record s { globals = with_element x 0 w s.globals }) e
 
--- the variables after a write to a local
+-- after a write to a local, the variables fit the new state
 pub record Sets (v : Environment) (total most : ℕ) (vs : List ℕ) (s : State) (x : List ℕ) (i w : ℕ) : Type 0 where
   pub below : nat_lt i (length vs) ≡ true
   pub fits : Fits v total most (slice_set vs i w) (stored x w s)
@@ -96,7 +96,7 @@ sets_local v total most vs s x i w h e =
       rest = λ p cs. ap (conf p (slice_set vs i w) [] cs) is;
     }
 
--- the words after a write to an object's element
+-- after a write to an object's element, the words of objects fit the new state
 pub record Puts (v : Environment) (total most : ℕ) (vs : List ℕ) (s : State) (x : List ℕ) (i w : ℕ) : Type 0 where
   pub below : nat_lt ((extent_of v.layout.objects x).offset + i) (length (all_of s.globals)) ≡ true
   pub words : slice_set (all_of s.globals) ((extent_of v.layout.objects x).offset + i) (kept (extent_of v.layout.objects x).width w) ≡ all_of (with_element x i w s.globals)

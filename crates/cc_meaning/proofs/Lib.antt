@@ -1,9 +1,9 @@
--- How the interpreter is shown to give the meaning of C. Writing: every clause says that the definition's code is put before
--- what was there already (WritingExpressions to WritingUnits). Running: for each part of the tree, at any place of its code in
--- the whole, a run from the part's beginning reaches its end with what the meaning says, or stops as the meaning does (Moves;
--- Expressions, Actions, Blocks, Loops, Called). So the form of a typed unit has the unit's behavior (Units). The interpreter
--- represents a configuration of the form before and after each instruction (Laying, Showing). Its loop ends because the steps
--- left, or the rest of the code, decrease (Ending).
+-- How it is proved that the interpreter's results are the meaning of C. Writing: each contract says that the code that a
+-- definition gives is written before the instructions that were there already (WritingExpressions to WritingUnits). Running: for
+-- each part of the tree, wherever its code lies in the whole code, a run from the part's beginning reaches the part's end with
+-- what the meaning says, or stops as the meaning does (Moves; Expressions, Actions, Blocks, Loops, Called). So the form of a
+-- typed unit has the unit's behavior (Units). The interpreter represents a configuration of the form before and after each
+-- instruction (Laying, Showing). Its loop ends because the steps left, or the rest of the code, decrease (Ending).
 -- runs of a resolved form, and what the code has at a place
 pub mod Moves
 -- operators and their operations
@@ -30,7 +30,7 @@ pub mod Called
 pub mod Units
 -- each loop leads back to its step
 pub mod Looped
--- each move decreases a number
+-- each move decreases `most_moves`
 pub mod Ending
 -- the stack and the frames after a push, a pop, a call, a return
 pub mod Laying
@@ -38,7 +38,7 @@ pub mod Laying
 pub mod Showing
 -- how the interpreter makes a move
 pub mod Moving
--- what is there if a move is not stuck
+-- what exists if a move is not stuck
 pub mod Taking
 -- calls and returns
 pub mod Calling

@@ -15,7 +15,7 @@ use Rattle.cc_meaning.proofs.Expressions.{Value, Part}
 use Rattle.cc_meaning.proofs.Actions.{Acted}
 use Rattle.cc_meaning.proofs.Blocks.{Reaches, Done, done_after, reaches_after}
 
--- where the parts of a loop are: its step, its body, what follows the body, its test, and the backward jump
+-- the places of a loop's parts: its step, its body, what follows the body, its test, and the backward jump
 pub record Loop (code : List Instruction) (body following test : List Instruction) (p : ℕ) : Type 0 where
   pub begins : slice_get code p ≡ Some instruction.Step
   pub has_body : Stands code (p + 1) body
@@ -71,7 +71,7 @@ module _ (form : FormTree) (cs : List Activation) (total n : ℕ) (layout : Layo
   abbrev Ends : Configuration → ℕ → (b k : State → Type 0) → Flow → State → Type 0
   Ends c most b k = Done form cs total layout c most (Reaches form cs total c v most end_at) b k
 
-  -- after the body
+  -- once the body has ended, the loop goes on, or ends as the source's loop does
   behind_body_meets : (c : Configuration) (most : ℕ) (b k : State → Type 0) (go : State → Run Flow) (flow : Flow) (t : State)
       → ((vs : List ℕ) (u : State) → Fits v total most vs u → Meets form (conf following_at vs [] cs u) (Ends (conf following_at vs [] cs u) most b k) (go u))
       → Done form cs total layout c most (Reaches form cs total c v most following_at) (Reaches form cs total c v most end_at) (Reaches form cs total c v most following_at) flow t
@@ -85,14 +85,14 @@ module _ (form : FormTree) (cs : List Activation) (total n : ℕ) (layout : Layo
       (λ u x. reaches_after form cs total c (conf following_at h.variables [] cs t) v v most most end_at end_at u h.leads refl refl (omega arith) refl x) (λ u x. x) (λ u x. x) (f h.variables t h.fits)
   behind_body_meets c most b k go (Returns w) t f h = h
 
-  -- the body of a turn, with any locals
+  -- the instructions of the body do what the body of a turn does, with any locals
   abbrev pub BodyDoes : Type 0
   BodyDoes = (most : ℕ) (vs : List ℕ) (t : State) → most < n → Fits v total most vs t
       → Meets form (conf body_at vs [] cs t)
       (Done form cs total layout (conf body_at vs [] cs t) most (Reaches form cs total (conf body_at vs [] cs t) v most following_at) (Reaches form cs total (conf body_at vs [] cs t) v most end_at) (Reaches form cs total (conf body_at vs [] cs t) v most following_at))
       (inside t)
 
-  -- a step is spent, then the body is done
+  -- a step is spent, and then the body runs
   step_by : (left most : ℕ) (b k : State → Type 0) (vs : List ℕ) (go : State → Run Flow) (t : State) → BodyDoes → t.steps ≡ left → most < n → Fits v total most vs t
       → ((less : ℕ) (vs : List ℕ) (u : State) → less < most → Fits v total less vs u → Meets form (conf following_at vs [] cs u) (Ends (conf following_at vs [] cs u) less b k) (go u))
       → Meets form (conf p vs [] cs t) (Ends (conf p vs [] cs t) most b k) (spend_of left (λ u. then_do (inside u) (λ flow x. behind_body flow go x)) t)
@@ -117,7 +117,7 @@ module _ (form : FormTree) (cs : List Activation) (total n : ℕ) (layout : Layo
       → Meets form (conf p vs [] cs t) (Ends (conf p vs [] cs t) most b k) (begin_body inside go t)
   begins_meet most b k vs go t does lt h f = step_by t.steps most b k vs go t does refl lt h f
 
-  -- back to the step
+  -- if the word is not 0, the backward jump leads to the step
   goes_back : (vs : List ℕ) (w : ℕ) (t : State) → Leads form (conf repeat_at vs (suc w ∷ []) cs t) (conf p vs [] cs t)
   goes_back vs w t =
       let size = 1 + length body + length following + length test in
@@ -134,7 +134,7 @@ module _ (form : FormTree) (cs : List Activation) (total n : ℕ) (layout : Layo
   FollowingDoes = (most : ℕ) (vs : List ℕ) (t : State) → most < n → Fits v total most vs t
       → Meets form (conf following_at vs [] cs t) (Acted form cs total (conf following_at vs [] cs t) v most test_at) (behind t)
 
-  -- after the test
+  -- after the test, the loop takes another turn, or ends
   tested : (i most w : ℕ) (b k : State → Type 0) (vs : List ℕ) (t : State) → BodyDoes → FollowingDoes → most < suc i → most < n → Fits v total most vs t
       → ((less : ℕ) (vs : List ℕ) (u : State) → less < i → less < n → Fits v total less vs u → Meets form (conf test_at vs [] cs u) (Ends (conf test_at vs [] cs u) less b k) (turns i condition inside behind u))
       → Meets form (conf repeat_at vs (w ∷ []) cs t) (Ends (conf repeat_at vs (w ∷ []) cs t) most b k)

@@ -30,7 +30,7 @@ use Rattle.cc_meaning.proofs.Evaluates.{expression_meets}
 use Rattle.cc_meaning.proofs.Actions.{Acted, acted_after, stores_local, store_meets, element_store_meets}
 use Rattle.cc_c_semantics.proofs.Scoped.{Readable, Scoped, scoped_local}
 
--- a new variable, which is 0, takes the first word that no name refers to
+-- a new variable, which is 0, occupies the first word that no name refers to
 cleared_words : (ws junk : List ℕ) → 0 < length junk → slice_set (reverse ws ++ junk) (length ws) 0 ≡ reverse (0 ∷ ws) ++ drop 1 junk
 cleared_words ws [] h = absurd (omega arith)
 cleared_words ws (j ∷ junk) h = set_right (reverse ws) (j ∷ junk) 0 (length ws) 0 (let e = length-reverse ws in omega arith) ∙ sym (newest_last 0 ws junk)
@@ -151,7 +151,7 @@ module _ (form : FormTree) (cs : List Activation) (total : ℕ) (layout : Layout
 
   -- ---- declarations
 
-  -- a new local, which is 0
+  -- once a variable is set to 0 for a new local, the variables fit the state with that local
   new_local : (t : Scalar) (x : List ℕ) (v : Environment) (most : ℕ) (vs : List ℕ) (s : State) → Fits v total most vs s → length v.locals < total
       → Fits (with_local t x v) total most (slice_set vs (length v.locals) 0) (meaning.with_local x s)
   new_local t x v most vs s h lt =

@@ -111,7 +111,7 @@ plain_xor = record { undecided = λ a. refl; joins = λ o l r. refl; works = λ 
 plain_or : IsPlain Or
 plain_or = record { undecided = λ a. refl; joins = λ o l r. refl; works = λ t a b. refl; fails = λ t. refl }
 
--- an operator is && or ||, or a plain one
+-- an operator is `&&`, `||` or a plain one
 pub data Kind (op : BinaryOperator) : Type 0 where
   IsAnd : op ≡ LogicalAnd → Kind op
   IsOr : op ≡ LogicalOr → Kind op
@@ -137,7 +137,7 @@ kind_of Or = IsOther plain_or
 kind_of LogicalAnd = IsAnd refl
 kind_of LogicalOr = IsOr refl
 
--- what an assignment applies is plain
+-- the operator that an assignment applies, if any, is plain
 abbrev pub IsPlainIfAny : Option BinaryOperator → Type 0
 IsPlainIfAny None = Unit {0}
 IsPlainIfAny (Some op) = IsPlain op

@@ -58,7 +58,7 @@ module _ (unit : List External) (typed : IsTyped unit) where
   abbrev TakesHere : List ℕ → ℕ → Type 0
   TakesHere = Takes (names_in unit) (functions unit)
 
-  -- functions, their instructions and their names, in the same order
+  -- the lists have functions, their instructions and their names, in the same order
   abbrev Matched : List Function → List FunctionCode → List (List ℕ) → Type 0
   Matched [] [] [] = Unit {0}
   Matched (g ∷ gs) (c ∷ cs) (x ∷ xs) = (g.name ≡ x) × Defined layout known (functions unit) g c × Matched gs cs xs
@@ -94,7 +94,7 @@ module _ (unit : List External) (typed : IsTyped unit) where
   matched (Objects t os ∷ rest) f o d whole =
       matched rest (with_objects t os f) (nil_right (external_errors (Objects t os) f) (externals_errors rest (with_objects t os f)) o) (defined_right known (called_in_external (Objects t os)) (called rest) d) whole
 
-  -- the name of one of these functions: its function, its number, and the place of its instructions
+  -- `x` is the name of one of these functions: the function, its number, and the place of its instructions
   record Listed (gs : List Function) (cs : List FunctionCode) (xs : List (List ℕ)) (code : List Instruction) (at : ℕ) (x : List ℕ) : Type 0 where
     function : Function
     instructions : FunctionCode
@@ -164,7 +164,7 @@ module _ (unit : List External) (typed : IsTyped unit) where
   no_parameters : (e : Entered (resolved unit) layout known (functions unit) (codes "main")) → e.function.parameters ≡ []
   no_parameters e = nil_from_length e.function.parameters (main_parameters unit typed e.function e.is)
 
-  -- the behavior with no step left, and with at least one
+  -- the form does what the unit does, with no step left and with at least one
   behaves : (text input : List ℕ) (n : ℕ) (e : Entered (resolved unit) layout known (functions unit) (codes "main"))
       → (k : ℕ) × (form_behavior k (resolved unit) input n ≡ Some (source_behavior (record { text = text; externals = unit }) input n))
   behaves text input zero e = (

@@ -1,4 +1,5 @@
--- An assignment: the index of the target, the right side, and the write, which follows both.
+-- The instructions of an assignment: those of the target's index, those of the right side, and the write,
+-- which comes last.
 use Rattle.std.proofs.Common.{◌≡◌, ℕ, ◌+◌, ◌-◌, List, [], ◌∷◌, ◌++◌, length, set, Option, Result, Ok, Err, OnOk, refl, sym, ap, ◌∙◌, append_assoc}
 use Rattle.cc_ast.specs.Tree.{Target, AtVariable, AtElement}
 use Rattle.cc_resolve.specs.Environment.{Environment}

@@ -12,11 +12,11 @@ use Rattle.cc_resolve.specs.declared.operations.BinaryOperation.{BinaryOperation
 use Rattle.cc_meaning.specs.declared.form.Instruction.{Instruction}
 use Rattle.cc_meaning.specs.declared.form.Instruction.TheVariants.{Binary, Truth, AndThen, OrElse}
 
--- a part written before another, which was written before the first instructions
+-- two parts, each written before what was there, precede the old instructions in order
 pub behind : {A : Type 0} (xs ys old mid new : List A) → new ≡ xs ++ mid → mid ≡ ys ++ old → new ≡ (xs ++ ys) ++ old
 behind xs ys old mid new en em = en ∙ ap (λ l. xs ++ l) em ∙ sym (append_assoc xs ys old)
 
--- the item that n others follow gets another value
+-- the item that is followed by n others can be replaced
 pub set_behind : {A : Type 0} (xs old new : List A) (x y : A) (n : ℕ) → new ≡ xs ++ x ∷ old → n ≡ length old → set new (length new - (n + 1)) y ≡ xs ++ y ∷ old
 set_behind xs old new x y n e en =
     let long : length new ≡ length xs + length (x ∷ old) = ap length e ∙ length-append xs (x ∷ old) in
@@ -25,13 +25,13 @@ set_behind xs old new x y n e en =
     let none : length xs - length xs ≡ 0 = omega arith in
     ap (λ i. set new i y) at ∙ ap (λ l. set l (length xs) y) e ∙ set-append_right xs (x ∷ old) (length xs) (length xs) y refl le ∙ ap (λ i. xs ++ set (x ∷ old) i y) none
 
--- a call after its arguments
+-- the instructions of the arguments, followed by the instruction of the call, are the code of the call
 pub call-code : (v : Environment) (f : Name) (es : Exprs) (e : Expr) (old mid new : List Instruction) → e ≡ tree.Call f es → mid ≡ call_of v f.text ∷ old → new ≡ arguments_code v es ++ mid
     → new ≡ expression_code v e ++ old
 call-code v f es e old mid new ee em en = behind (arguments_code v es) (call_of v f.text ∷ []) old mid new en em ∙ sym (ap (λ t. expression_code v t ++ old) ee)
 
 module _ (op : BinaryOperation) (left right old second cut first new : List Instruction) (n : ℕ) (en : n ≡ length old) (e2 : second ≡ right ++ Truth ∷ old) (e4 : first ≡ left ++ cut) where
-  -- both operands of an operator that has a short cut
+  -- the instructions of both operands are right for an operator that has a short cut
   with_cut : (jump : ℕ → Instruction) → cut ≡ jump (length second - n) ∷ second → new ≡ first → new ≡ (left ++ jump (length right + 1) ∷ right ++ Truth ∷ []) ++ old
   with_cut jump e3 e5 =
       let long : length second ≡ length right + length (Truth ∷ old) = ap length e2 ∙ length-append right (Truth ∷ old) in
@@ -39,7 +39,7 @@ module _ (op : BinaryOperation) (left right old second cut first new : List Inst
       let mid : cut ≡ (jump (length right + 1) ∷ right) ++ Truth ∷ old = e3 ∙ ap (λ k. jump k ∷ second) distance ∙ ap (λ l. jump (length right + 1) ∷ l) e2 in
       behind (left ++ jump (length right + 1) ∷ right) (Truth ∷ []) old (Truth ∷ old) new (behind left (jump (length right + 1) ∷ right) (Truth ∷ old) cut new (e5 ∙ e4) mid) refl
 
-  -- both operands of an operator without a short cut
+  -- the instructions of both operands are right for an operator without a short cut
   without_cut : cut ≡ second → new ≡ set first (length first - (n + 1)) (Binary op) → new ≡ (left ++ right ++ Binary op ∷ []) ++ old
   without_cut e3 e5 =
       let stands : first ≡ (left ++ right) ++ Truth ∷ old = behind left right (Truth ∷ old) cut first e4 (e3 ∙ e2) in

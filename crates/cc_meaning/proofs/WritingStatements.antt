@@ -1,5 +1,5 @@
--- Instructions are written from last to first: the names of a list come into scope first, and then the instructions after each
--- member are there when the member is written.
+-- Instructions are written from last to first: the names of a list come into scope first, and when a member is written, the
+-- instructions after it are already there.
 use Rattle.std.proofs.Common.{◌≡◌, ℕ, ◌+◌, ◌-◌, ◌≤◌, List, [], ◌∷◌, ◌++◌, length, length-append, reverse, set, refl, sym, ap, ◌∙◌, append_assoc, arith}
 use Rattle.std.proofs.lemmas.List.{set-append_right}
 use Rattle.cc_ast.specs.Erase.{optional_tree, declarator_trees, statement_tree, statements_of}
@@ -18,7 +18,7 @@ use Rattle.cc_meaning.proofs.Emitting.{reverse-prefix}
 
 -- ---- declarations
 
--- the environment after some names in a declaration, the last one first
+-- the environment after some names in a declaration, given the last one first
 abbrev pub with_reversed : Scalar → List Declarator → Environment → Environment
 with_reversed t [] w = w
 with_reversed t (d ∷ before) w = with_local t d.name.bytes.items (with_reversed t before w)
@@ -33,11 +33,11 @@ with_locals-reversed t (d ∷ ds) w =
     with_locals-reversed t ds (with_local t d.name.bytes.items w) ∙ sym (with_reversed-append t (reverse ds) (d ∷ []) w)
     ∙ sym (ap (λ l. with_reversed t l w) (reverse-prefix d ds))
 
--- one name in a declaration, whose local is the newest in an environment after another one
+-- the instructions of one name in a declaration, given the environment `w` before it
 abbrev pub declarator_code : Scalar → Declarator → Environment → List Instruction
 declarator_code t d w = Clear (length w.locals) ∷ initial_code (with_local t d.name.bytes.items w) (length w.locals) (optional_tree d.initial)
 
--- names in a declaration, the last one first, before some instructions
+-- the instructions of names in a declaration (given the last one first), followed by the instructions `c`
 abbrev pub declared_onto : Scalar → List Declarator → Environment → List Instruction → List Instruction
 declared_onto t [] w c = c
 declared_onto t (d ∷ before) w c = declared_onto t before w (declarator_code t d (with_reversed t before w) ++ c)
@@ -57,7 +57,7 @@ declared-is t (d ∷ ds) w c =
     ∙ ap (λ l. declarator_code t d w ++ l) (declared-is t ds there c)
     ∙ sym (append_assoc (declarator_code t d w) (declared_code there t (declarator_trees ds)) c)
 
--- while the names of a declaration are removed: the code so far, with the names that are left, makes up the whole
+-- while the names of a declaration are removed, the code so far and the names that are left together make up the whole
 pub record Undeclaring (t : Scalar) (w : Environment) (all : List Declarator) (c0 : List Instruction) (v : Environment) (c : List Instruction) (rest : List Declarator) : Type 0 where
   pub names : v ≡ with_reversed t rest w
   pub code : declared_onto t rest w c ≡ declared_onto t all w c0
@@ -79,7 +79,7 @@ Undeclaring-next t w all c0 v c d rest v' c' before en ec =
 
 -- ---- statements
 
--- the environment after some statements, in the order of the text, and the last one first
+-- the environment after some statements, given in the order of the text, or the last one first
 abbrev pub behind_all : List Statement → Environment → Environment
 behind_all [] w = w
 behind_all (s ∷ rest) w = behind_all rest (behind (statement_tree s) w)
@@ -98,7 +98,7 @@ behind_all-reversed (s ∷ ss) w =
     behind_all-reversed ss (behind (statement_tree s) w) ∙ sym (behind_reversed-append (reverse ss) (s ∷ []) w)
     ∙ sym (ap (λ l. behind_reversed l w) (reverse-prefix s ss))
 
--- statements, the last one first, before some instructions
+-- the instructions of statements (given the last one first), followed by the instructions `c`
 abbrev pub written_onto : Exits → List Statement → Environment → List Instruction → List Instruction
 written_onto x [] w c = c
 written_onto x (s ∷ before) w c = written_onto x before w (statement_code (behind_reversed before w) (exits_of (length c) x) (statement_tree s) ++ c)
@@ -110,7 +110,7 @@ written_onto-append x (s ∷ xs) ys w c =
     ap (λ v. written_onto x (xs ++ ys) w (statement_code v (exits_of (length c) x) (statement_tree s) ++ c)) (behind_reversed-append xs ys w)
     ∙ written_onto-append x xs ys w (statement_code (behind_reversed xs (behind_reversed ys w)) (exits_of (length c) x) (statement_tree s) ++ c)
 
--- a target's distance from the next instruction, given its distance from those that are written
+-- a target's distance from an instruction n places earlier is larger by n
 further-minus : (n m k : ℕ) → k ≤ m → (n + m) - k ≡ n + (m - k)
 further-minus n m k h = omega arith
 
@@ -133,7 +133,7 @@ written-is x (s ∷ ss) w c hb hc =
     ∙ ap (λ e. statement_code w e (statement_tree s) ++ (others ++ c)) (further-exits x c others hb hc)
     ∙ sym (append_assoc (statement_code w (further (length others) (exits_of (length c) x)) (statement_tree s)) others c)
 
--- while the statements of a list are written: the code so far, with the statements that are left, makes up the whole
+-- while the statements of a list are written, the code so far and the statements that are left together make up the whole
 pub record Writing (x : Exits) (w : Environment) (all : List Statement) (c0 : List Instruction) (v : Environment) (c : List Instruction) (rest : List Statement) : Type 0 where
   pub names : v ≡ behind_reversed rest w
   pub code : written_onto x rest w c ≡ written_onto x all w c0
@@ -157,7 +157,8 @@ Writing-next x w all c0 v c s rest v' c' before en ec =
       longer = omega arith;
     }
 
--- a statement that declares nothing in the scope around it, as the walk meets it
+-- the code of a statement that declares nothing in the scope around it does not depend on which of two equal statements the
+-- walk meets
 pub statement-is : (s met : tree.Stmt) (v w : Environment) (x : code.Exits) (c c' : List Instruction) → s ≡ met → v ≡ behind s w → behind met w ≡ w
     → c' ≡ statement_code v x met ++ c → c' ≡ statement_code w x s ++ c
 statement-is s met v w x c c' is e stays written =
@@ -166,7 +167,7 @@ statement-is s met v w x c c' is e stays written =
 
 -- ---- loops
 
--- the body of a loop, when this many instructions are written
+-- the targets of break and continue in a loop's body, as numbers of written instructions
 pub exits-of-body : (following test rest c : List Instruction) (breaks : ℕ) → c ≡ following ++ (test ++ Repeat 0 ∷ rest) → breaks ≡ length rest
     → exits_of (length c) (record { breaks = breaks; continues = length c }) ≡ exits_of_body following test
 exits-of-body following test rest c breaks e b =

@@ -1,4 +1,4 @@
--- Functions and external declarations, one after another: what is written, together with what is left, makes up the whole.
+-- Functions and external declarations, one after another: what is written and what is left together make up the whole.
 use Rattle.std.proofs.Common.{◌≡◌, ℕ, ◌+◌, List, [], ◌∷◌, ◌++◌, length, length-append, append_assoc, refl, sym, ap, ◌∙◌, arith}
 use Rattle.std.proofs.lemmas.List.{append-nil}
 use Rattle.std.specs.Prelude.{codes}
@@ -57,7 +57,7 @@ entries_from-append at (f ∷ xs) ys =
     ap (λ l. record { start = at; parameters = f.parameters; variables = f.variables } ∷ l)
     (entries_from-append (at + length f.code) xs ys ∙ ap (λ n. entries_from (at + length f.code) xs ++ entries_from n ys) k)
 
--- after some external declarations of a unit
+-- the state of the walk after some external declarations of a unit
 pub record Resolving (p : Layout) (all : List FunctionCode) (v : Environment) (code : List Instruction) (entries : List Entry) (rest : List External) : Type 0 where
   pub inner : v.visible.inner ≡ []
   pub locals : v.locals ≡ []
@@ -92,7 +92,7 @@ Resolving-next p all v code entries e rest v' code' entries' before ev ec ee =
           (ee ∙ ap (λ q. entries ++ entries_from (length code) (functions_code q f (e ∷ []))) before.layout);
     }
 
--- before the first one
+-- before the first external declaration, the state of the walk is as `Resolving` says
 pub Resolving-first : (all : List External) (p : Layout) (v : Environment) (code : List Instruction) (entries : List Entry)
     → v ≡ record { visible = file_level first_file_scope.bindings; locals = []; layout = p } → p ≡ layout_of all → code ≡ [] → entries ≡ []
     → Resolving (layout_of all) (unit_functions all) v code entries all
@@ -109,7 +109,7 @@ Resolving-first all p v code entries ev ep ec ee =
           ∙ ap (λ l. entries_from (length l) (functions_code (layout_of all) (file_of v.visible) all)) ec ∙ ap (entries_from 0) there;
     }
 
--- after the last one
+-- after the last external declaration, the code and the entries of all functions are written
 pub Resolving-last : (all : List External) (v : Environment) (code : List Instruction) (entries : List Entry) (rest : List External)
     → Resolving (layout_of all) (unit_functions all) v code entries rest → rest ≡ [] → (code ≡ all_code (unit_functions all)) × (entries ≡ entries_from 0 (unit_functions all))
 Resolving-last all v code entries rest last none =
@@ -118,7 +118,7 @@ Resolving-last all v code entries rest last none =
       sym (append-nil entries) ∙ sym (ap (λ es. entries ++ entries_from (length code) (functions_code q (file_of v.visible) es)) none) ∙ last.functions,
     )
 
--- the form of a unit
+-- what has been written is the form of the unit
 pub form-is : (all : List External) (p : Layout) (code : List Instruction) (entries : List Entry) (main : ℕ) (words : List ℕ)
     → code ≡ all_code (unit_functions all) → entries ≡ entries_from 0 (unit_functions all) → p ≡ layout_of all
     → main ≡ names_before p.functions (codes "main") → words ≡ all_words (objects all)

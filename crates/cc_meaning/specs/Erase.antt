@@ -1,4 +1,4 @@
--- The code's result, as the definitions see it.
+-- The code's result, in terms of the definitions.
 use Rattle.std.specs.Prelude.{ℕ}
 use Rattle.cc_c_semantics.specs.Outcome as outcome
 use Rattle.cc_meaning.specs.declared.outcome.Stop.{Stop}

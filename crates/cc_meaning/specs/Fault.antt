@@ -3,6 +3,6 @@ use Rattle.std.specs.Prelude.{ℕ}
 use Rattle.cc_meaning.specs.declared.fault.MeaningFault.{MeaningFault}
 use Rattle.cc_meaning.specs.declared.fault.MeaningFault.TheVariants.{OutOfMemory}
 
--- the number by which a fault is known
+-- the number of a fault
 abbrev pub fault_number : MeaningFault → ℕ
 fault_number OutOfMemory = 40

@@ -1,4 +1,4 @@
--- the code's result, as the definitions see it
+-- the code's result, in terms of the definitions
 pub mod Erase
 -- the number of the fault
 pub mod Fault

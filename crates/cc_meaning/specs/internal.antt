@@ -1,5 +1,4 @@
--- Definitions that only private contracts and proofs use: the resolved form, what it means, and how the interpreter represents a
--- run.
+-- Definitions that only private contracts and proofs use: the resolved form, what it means, and how the interpreter represents a run.
 pub mod Form
 pub mod FormErase
 pub mod Emitted

@@ -46,7 +46,7 @@ impl Emitter {
         Ok(())
     }
 
-    /// How many instructions the next jump must skip to reach the place that `target` instructions followed when it was noted.
+    /// How many instructions the next jump must skip to reach the place that `target` of the written instructions follow.
     pub fn distance(&self, target: usize) -> usize
         requires { target ≤ length self.now }
         ensures { result ≡ length self.now - target }
@@ -54,7 +54,7 @@ impl Emitter {
         self.items.len() - target
     }
 
-    /// Replaces the instruction that `behind` instructions follow.
+    /// Replaces the instruction that is followed by `behind` instructions.
     pub fn replace(&mut self, behind: usize, instruction: Instruction)
         requires { behind < length self.old }
         ensures { self.new ≡ slice_set self.old (length self.old - (behind + 1)) instruction }
@@ -62,7 +62,7 @@ impl Emitter {
         self.items[behind] = instruction;
     }
 
-    /// Appends the instructions to others, in the order in which they run, and starts again with none.
+    /// Appends the instructions to others, in the order in which they run, and leaves the emitter empty.
     pub fn finish(&mut self, code: &mut Vec<Instruction>) -> Result<(), AllocError>
         ensures code { OnOk result (code.new.items ≡ code.old.items ++ self.old) }
         ensures begun { OnOk result (self.new ≡ []) }

@@ -27,14 +27,14 @@ pub enum Instruction {
     Element(Extent),
     /// Sets a variable to 0.
     Clear(usize),
-    /// Takes a word and stores it in a variable of the function.
+    /// Pops a word and stores it in a variable of the function.
     SetLocal(usize),
-    /// Takes a word and stores it in a word of the objects at file scope.
+    /// Pops a word and stores it in a word of the objects at file scope.
     SetGlobal(usize),
-    /// Takes a word and the index below it, and stores the word in the array's element.
+    /// Pops a word and the index below it, and stores the word in the array's element.
     SetElement(Extent),
-    /// Takes a word, and for an element the index below it, and replaces the old value there with the operation's value for the
-    /// old value and the word.
+    /// Pops a word (and, for an element, the index below it), and replaces the slot's old value with the operation's value for
+    /// the old value and the word.
     Update(BinaryOperation, Slot),
     Unary(UnaryOperation),
     /// Replaces two words, the left one below the right one, with the operation's value.
@@ -43,19 +43,19 @@ pub enum Instruction {
     Drop,
     /// Replaces a word other than 0 with 1, and keeps 0.
     Truth,
-    /// If the word is 0, keeps it and skips this many instructions; otherwise removes it.
+    /// If the newest word is 0, keeps it and skips this many instructions; otherwise pops it.
     AndThen(usize),
-    /// If the word is not 0, replaces it with 1 and skips this many instructions; otherwise removes it.
+    /// If the newest word is not 0, replaces it with 1 and skips this many instructions; otherwise pops it.
     OrElse(usize),
     /// Skips this many instructions.
     Jump(usize),
-    /// Takes a word, and skips this many instructions if it is 0.
+    /// Pops a word, and skips this many instructions if it is 0.
     JumpIfZero(usize),
-    /// Takes a word, and if it is not 0 goes back over this many instructions and itself.
+    /// Pops a word, and if it is not 0, goes back over this many instructions and the current one.
     Repeat(usize),
     /// Spends a step; stops if none is left.
     Step,
-    /// Calls the function with this number, in the order of definitions.
+    /// Calls the function with this number; functions are numbered in the order of their definitions.
     Call(usize),
     /// Pushes the next word of the input, or 0 if none is left.
     Read,
@@ -65,7 +65,7 @@ pub enum Instruction {
     Return,
 }
 
-/// The index of a function's first instruction, how many parameters it has, and how many other variables.
+/// The index of a function's first instruction, how many parameters the function has, and how many other variables.
 #[derive(Clone, Copy)]
 pub struct Entry {
     pub start: usize,

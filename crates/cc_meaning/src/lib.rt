@@ -8,8 +8,8 @@
 //! - `outcome`: the outcome of a run.
 //! - `fault`: the refusal 40.
 //!
-//! The crate exports `interpret`, these types, and the items of `cc_c_semantics`. The meaning of C is defined in that crate's
-//! `specs/Meaning.antt`, and it is proved that `interpret` returns it.
+//! The crate exports `interpret`, the types of its arguments and results, and the items of `cc_c_semantics`. The meaning of C
+//! is defined in that crate's `specs/Meaning.antt`, and it is proved that `interpret` returns it.
 #![tactic(auto)]
 
 mod emitter;

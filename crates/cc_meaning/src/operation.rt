@@ -18,7 +18,7 @@ pub fn unary(operation: UnaryOperation, word: u32) -> u32
     }
 }
 
-/// The value of an operation on two words, or why it has none.
+/// The value of an operation on two words, or why it has no value.
 #[inline(always)]
 pub fn binary(operation: BinaryOperation, left: u32, right: u32) -> Result<u32, Cause>
     ensures { result ≡ ok_or (binary_result operation left right) (cause_of_operation operation) }

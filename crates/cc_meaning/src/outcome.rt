@@ -51,7 +51,7 @@ impl Words {
         self.words.as_slice()
     }
 
-    /// Returns the vector that has the words. Takes no memory.
+    /// Returns the vector that contains the words. Takes no memory.
     pub fn into_vec(self) -> Vec<u32>
         ensures { result.items ≡ self }
     {

@@ -1,4 +1,4 @@
--- How many nodes of RTL guarded code takes: at most eleven more for each operation that can lack an answer, and one for the loop at its end.
+-- How many nodes of RTL guarded code needs: at most eleven more for each operation that can lack a value, and one for the loop at its end.
 use Rattle.std.proofs.Common.{◌≡◌, ℕ, suc, ◌+◌, ◌*◌, ◌≤◌, Bool, true, false, List, [], ◌∷◌, ◌++◌, refl, ap, arith}
 use Rattle.std.specs.Prelude.{if◌then◌else◌}
 use Rattle.cc_words.specs.declared.operators.Binary as two
@@ -33,8 +33,8 @@ then_nodes b (Put t e ∷ gs) s = let h = then_nodes b gs s in omega arith
 then_nodes b (Stop e ∷ gs) s = let h = then_nodes b gs s in omega arith
 then_nodes b (StopBoth d e ∷ gs) s = let h = then_nodes b gs s in omega arith
 
--- the nodes that guarded code takes in a register and as an operand, for an expression that takes `into` and `operand` nodes
--- itself and has `more` operations
+-- how many nodes put a guarded expression into a register and hold it as an operand, if the expression itself needs `into`
+-- and `operand` nodes and has `more` operations that can lack a value
 record Few (into operand more : ℕ) (g : Guarded) : Type 0 where
   put : guards_nodes g.before + into_nodes g.value ≤ into + 11 * more
   used : guards_nodes g.before + operand_nodes g.value ≤ operand + 11 * more

@@ -1,5 +1,5 @@
 -- The definition of a function whose code is too large is long. Checked code of t tokens has at most 12 t statements and
--- expressions, and t operations that can lack an answer, each with eleven nodes more. With the loop at the end that is at most 23
+-- expressions, and t operations that can lack a value, each with eleven nodes more. With the loop at the end, that is at most 23
 -- t + 4 of the 4,096 nodes.
 use Rattle.std.proofs.Common.{ℕ, ◌<◌, ◌≤◌, List, [], ◌∷◌, length, Option, Some, None, arith}
 use Rattle.std.proofs.lemmas.Bool.Decides.{nat_tests}

@@ -46,12 +46,12 @@ fn checked(alloc: Global, pair: CminorPair) -> Result<CminorPair, RtlFault>
     }
 }
 
-/// The Cminor of a function in a mode, from its Cminor as it was lowered: the same, or with guards if it is checked. The pair's
-/// type keeps what the code owes in the mode. Its RTL would be too large only for a definition of more than 256 tokens, or 177
-/// for a checked one (`small`).
+/// The Cminor of a function in a mode, from its Cminor as it was lowered: unchanged, or with guards in the checked mode. The
+/// pair's type guarantees that the code keeps up with the function in that mode. The RTL of the code would be too large only
+/// for a definition of more than 256 tokens, or 177 for a checked one (`small`).
 ///
-/// `FunctionTooLarge` (22) if guards would set more than 2,048 variables, which needs such a definition too; `OutOfMemory` (40)
-/// if memory runs out. After an error the pair is gone.
+/// `FunctionTooLarge` (22) if guards would set more than 2,048 variables, which also takes a definition of more than 177
+/// tokens; `OutOfMemory` (40) if memory runs out. An error drops the pair.
 pub fn guarded_in(alloc: Global, mode: Mode, pair: CminorPair) -> Result<CminorPair, RtlFault>
     requires plain { pair.mode ≡ Plain }
     requires exits { ExitsFit 0 (code_of pair) }

@@ -31,7 +31,7 @@ accepted_as : (units : Units) (name : List ℕ) (unit : StoredUnit) (has : Bool)
 accepted_as units name unit true e = ap (λ (b : Bool). is_ok (if b then Ok (map.insert units name unit) else Err absent)) e
 accepted_as units name unit false e = ap (λ (b : Bool). is_ok (if b then Err exists else Ok (map.insert units name unit))) e
 
--- the map accepts that command
+-- the map accepts the command that puts a unit
 pub putting_accepted : (units : Units) (name : List ℕ) (unit : StoredUnit) → IsOk (apply units (putting units name unit))
 putting_accepted units name unit = accepted_as units name unit (map.contains_key units name) refl
 
@@ -80,7 +80,7 @@ has_one_more image area bodies commands command holds read is ok = record {
   read = record { spelled = spelled_push bodies commands (body_of command) command read.spelled (written command is); accepted = accepted_push empty commands command read.accepted ok };
 }
 
--- the commands of a disk are those of the library that was opened on it
+-- if a disk has the records of commands, they are those of the library that was opened on it
 pub known_commands : (seen : List ℕ) (area : ℕ) (bodies : List (List ℕ)) (units : Units) → HoldsRecords seen area bodies → StandFor bodies units → (commands : List LibraryCommand) → HasCommands seen commands
     → (units ≡ library_of commands) × AreRead bodies commands
 known_commands seen area bodies units holds stand commands has =
@@ -89,7 +89,7 @@ known_commands seen area bodies units holds stand commands has =
     (one_map empty bodies units (library_of commands) stand (record { commands = commands; spelled = read.spelled; accepted = read.accepted; map_is = refl }), read)
 
 module _ {D : Type 0} (seen : D → List ℕ) (may_leave : D → List ℕ → Type 0) where
-  -- every image after the change has the commands and the one that puts the unit
+  -- after the change, every image has the records of the commands and of the one that puts the unit
   pub logged_on : (answer : Result (Unit {0}) LibraryFault) (H : Type 0) (before : List ℕ) (old new : View D) (name : List ℕ) (unit : StoredUnit)
       → (H → ChangesDisk seen may_leave (putting old.units name unit) old new answer) → ChangeLeaves (putting old.units name unit) old new answer → (H → HoldsRecords (seen old.disk) old.area old.bodies)
       → (H → (commands : List LibraryCommand) → HasCommands before commands → (old.units ≡ library_of commands) × AreRead old.bodies commands)
@@ -112,7 +112,7 @@ module _ {D : Type 0} (seen : D → List ℕ) (may_leave : D → List ℕ → Ty
 
 -- ---- refusals
 
--- a change that was refused without a failure of the device leaves all as it was
+-- a change that was refused without a failure of the device leaves everything as it was
 pub change_untouched : {D : Type 0} (answer : Result (Unit {0}) LibraryFault) (command : LibraryCommand) (old new : View D) → ChangeLeaves command old new answer → IfErr answer (λ fault. fault ≢ DiskFault → new ≡ old)
 change_untouched (Ok done) command old new leaves = tt
 change_untouched (Err DiskFault) command old new leaves = λ other. absurd (other refl)
@@ -140,14 +140,15 @@ change_refused honest bytes begin before after no_room (Err NoUnit) old name uni
 change_refused honest bytes begin before after no_room (Err Damaged) old name unit same is_open room why = absurd why
 change_refused honest bytes begin before after no_room (Err NotALibrary) old name unit same is_open room why = absurd why
 
--- there is no room after the records of the library that was opened
+-- if the record does not fit after those of the library that was opened, it does not fit after those of the
+-- disk
 pub no_room : (seen : List ℕ) (area : ℕ) (bodies : List (List ℕ)) (units : Units) (name : List ℕ) (unit : StoredUnit) → HoldsRecords seen area bodies → (stand : StandFor bodies units)
     → area < room_of (bodies ++ body_of (putting units name unit) ∷ []) → HasNoRoom seen name unit
 no_room seen area bodies units name unit holds stand less =
     let has : HasCommands seen stand.commands = record { area = area; bodies = bodies; holds = holds; read = record { spelled = stand.spelled; accepted = stand.accepted } } in
     (stand.commands, has, subst (λ (m : Units). area < room_of (bodies ++ body_of (putting m name unit) ∷ [])) stand.map_is less)
 
--- the same holds for the disk before it was read
+-- the reason why a unit is not put, stated for the disk before it was read
 pub put_refused : (honest : Bool) (seen mid : List ℕ) (begin before after : ℕ) (no_room more : Type 0) (fault : LibraryFault) → (IsTrue honest → mid ≡ seen) → before ≡ begin → (IsTrue honest → no_room → more)
     → IsNotPut honest mid before after no_room fault → IsNotPut honest seen begin after more fault
 put_refused honest seen mid begin before after no_room more Full is same step why = (why.0 ∙ same, λ h. step h (why.1 h))
@@ -163,7 +164,7 @@ put_refused honest seen mid begin before after no_room more Closed is same step 
 -- ---- reading
 
 module _ {D : Type 0} (seen : D → List ℕ) (may_leave : D → List ℕ → Type 0) (moment : D → ℕ) (left_since : D → ℕ → List ℕ → Type 0) where
-  -- to read, and then to read again, is only to read
+  -- if a disk was only read twice in a row, it was only read
   pub reads_on : (a b c : D) → OnlyReads seen may_leave moment left_since a b → OnlyReads seen may_leave moment left_since b c → OnlyReads seen may_leave moment left_since a c
   reads_on a b c first second = record {
     same = second.same ∙ first.same;

@@ -1,4 +1,4 @@
--- What is put back: what a crash leaves of a disk that was read and then changed, and the map that an add or a replace makes.
+-- What is put back: what a crash leaves of a disk that was read and then changed, and the map that an Add or a Replace makes.
 use Rattle.std.proofs.Common.{◌≡◌, ◌⊎◌, inl, inr, ℕ, Bool, true, false, List, refl, ap, subst, ◌∙◌, Result, Ok, Err, arith}
 use Rattle.std.specs.Prelude.{if◌then◌else◌, OnOk}
 use Rattle.std.specs.FinMap as map
@@ -17,7 +17,7 @@ use Rattle.cc_past.specs.internal.Steps.{MayBe}
 
 -- ---- the map
 
--- a name without a unit is added, one with a unit is replaced
+-- an Add of a name without a unit, or a Replace of one with a unit, sets the unit under the name
 pub added : (units : Units) (name : List ℕ) (unit : StoredUnit) → map.contains_key units name ≡ false → after units (Add name unit) ≡ map.insert units name unit
 added units name unit e = ap (λ (b : Bool). kept units (if b then Err exists else Ok (map.insert units name unit))) e
 
@@ -44,7 +44,8 @@ module _ {D : Type 0} (seen : D → List ℕ) (may_leave : D → List ℕ → Ty
   deeper f (inl a) = inl (f a)
   deeper f (inr p) = inr (inr p)
 
-  -- a read and then a change that leaves only P: together they leave only what could be left before, or P
+  -- if a disk is read and then changed in a way that leaves only P, the two together leave only what could be left before, or
+  -- P
   pub read_then : (P : List ℕ → Type 0) (old mid new : D) → ((image : List ℕ) → left_since old (moment old) image → may_leave old image)
       → OnlyReads seen may_leave moment left_since old mid → LeavesOnly moment left_since mid new P → LeavesOnly moment left_since old new (λ image. may_leave old image ⊎ P image)
   read_then P old mid new only_now first second = record {
@@ -64,12 +65,12 @@ module _ {D : Type 0} (seen : D → List ℕ) (may_leave : D → List ℕ → Ty
 
 -- ---- answers
 
--- a claim about each answer that is Ok
+-- if A implies B, and A holds if the answer is Ok, then so does B
 pub on_ok : {T F : Type 0} {A B : Type 0} → (A → B) → (r : Result T F) → OnOk r A → OnOk r B
 on_ok step (Ok t) a = step a
 on_ok step (Err f) a = tt
 
--- after a change that was made, the map is the one that the change makes
+-- after Ok, every image recovers to the map that the change makes
 pub kept_as : {D : Type 0} (answer : Result (Unit {0}) LibraryFault) (command : LibraryCommand) (old new : View D) (may_leave : D → List ℕ → Type 0) (H : Type 0) (made : Units)
     → after old.units command ≡ made → ChangeLeaves command old new answer → OnOk answer (H → (image : List ℕ) → may_leave new.disk image → RecoversAlone image new.units)
     → OnOk answer (H → (image : List ℕ) → may_leave new.disk image → RecoversAlone image made)
@@ -78,7 +79,8 @@ kept_as (Ok done) command old new may_leave H made is leaves kept =
     λ h image left. subst (λ (m : Units). RecoversAlone image m) units (kept h image left)
 kept_as (Err fault) command old new may_leave H made is leaves kept = tt
 
--- what could have been left of a disk after it was read could have been left before
+-- an image left after the disk was read and the unit put may have been left before, or has the earlier map or the restored
+-- one
 pub may_be_restored : (seen name : List ℕ) (number : ℕ) (before mid : List ℕ → Type 0) (units : Units) (stored : List ℕ) (unit : StoredUnit) → ((image : List ℕ) → mid image → before image)
     → stored ≡ name → IsStoredOn seen name number unit → (image : List ℕ) → before image ⊎ MayBe mid units (map.insert units stored unit) image → MayBeRestored seen name number before units image
 may_be_restored seen name number before mid units stored unit none same is image (inl left) = inl left

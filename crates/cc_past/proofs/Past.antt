@@ -7,7 +7,7 @@ use Rattle.cc_tasks.specs.declared.part.PartFault.TheVariants.{BadName, Absent, 
 use Rattle.cc_past.specs.Past.{IsNotStoredOn}
 use Rattle.cc_past.specs.internal.Steps.{IsNotStored}
 
--- the reason why a command stored nothing, among those of a disk, is the reason why it stored nothing on the disk
+-- the reason why one of a disk's commands stored nothing, stated for the disk
 pub not_stored_on : (honest : Bool) (seen : List ℕ) (before after : ℕ) (name : List ℕ) (number : ℕ) (commands : List LibraryCommand) → (IsTrue honest → HasCommands seen commands)
     → (fault : PartFault) → IsNotStored commands name number fault → IsNotStoredOn honest seen before after name number fault
 not_stored_on honest seen before after name number commands has BadName why = why

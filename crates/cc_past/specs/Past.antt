@@ -15,16 +15,16 @@ pub record IsStored (commands : List LibraryCommand) (name : List ℕ) (number :
   pub is_name : IsTrue (is_name name)
   pub stored : stored_at commands name number ≡ Some unit
 
--- the bytes are a name under which that command stored nothing, or there is no such command
+-- the bytes are a name under which the command with this number stored nothing, or there is no such command
 pub record StoresNone (commands : List LibraryCommand) (name : List ℕ) (number : ℕ) : Type 0 where
   pub is_name : IsTrue (is_name name)
   pub stored : stored_at commands name number ≡ None
 
--- among the commands whose records the disk has, the one with this number stored this unit under the name
+-- of the commands whose records the disk has, the one with this number stored this unit under the name
 abbrev pub IsStoredOn : (seen name : List ℕ) (number : ℕ) → StoredUnit → Type 0
 IsStoredOn seen name number unit = (commands : List LibraryCommand) × HasCommands seen commands × IsStored commands name number unit
 
--- why there is no such unit on a disk: the library could not be opened, or the command stored none
+-- why there is no such unit on a disk: the library could not be opened, or the command stored no unit under the name
 abbrev pub IsNotStoredOn : (honest : Bool) (seen : List ℕ) (before after : ℕ) (name : List ℕ) (number : ℕ) → PartFault → Type 0
 IsNotStoredOn honest seen before after name number (Library f) = OpenFaults honest seen before after f
 IsNotStoredOn honest seen before after name number BadName = is_name name ≡ false

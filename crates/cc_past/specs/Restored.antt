@@ -16,13 +16,13 @@ use Rattle.cc_tasks.specs.declared.part.PartFault.{PartFault}
 use Rattle.cc_tasks.specs.declared.part.PartFault.TheVariants.{BadName, Absent, Library, OutOfMemory}
 use Rattle.cc_past.specs.Past.{IsNotStoredOn, IsStored, IsStoredOn}
 
--- the command that puts a unit under a name: a Replace if the map has a unit there, else an Add
+-- the command that puts a unit under a name: a Replace if the name has a unit in the map, else an Add
 abbrev pub putting : Units → (name : List ℕ) → StoredUnit → LibraryCommand
 putting units name unit = if contains_key units name then Replace name unit else Add name unit
 
--- The disk had the records of commands, and the one of this number stored the unit under the name. Every image now has the
--- records of these commands and of the one that puts the unit, and of no others: nothing is compacted. So it recovers to the map
--- that they made, with that unit under the name, and to no other.
+-- The disk had the records of `commands`, and the one with this number stored the unit under the name. Every image now has the records
+-- of exactly these commands and of the one that puts the unit: nothing is compacted. So it recovers to the map that they made, with
+-- that unit under the name, and to no other map.
 pub record IsRestoredBy (seen name : List ℕ) (number : ℕ) (unit : StoredUnit) (images : List ℕ → Type 0) : Type 0 where
   pub commands : List LibraryCommand
   pub has : HasCommands seen commands
@@ -30,7 +30,7 @@ pub record IsRestoredBy (seen name : List ℕ) (number : ℕ) (unit : StoredUnit
   pub logged : (image : List ℕ) → images image → HasCommands image (commands ++ putting (library_of commands) name unit ∷ [])
   pub restored : (image : List ℕ) → images image → RecoversAlone image (insert (library_of commands) name unit)
 
--- an image that could have been left before, or that recovers to the earlier map, or to that map with the unit that the command stored
+-- the image could have been left before, or recovers to the earlier map, or to that map with the unit that the command stored
 abbrev pub MayBeRestored : (seen name : List ℕ) (number : ℕ) (before : List ℕ → Type 0) (old : Units) → List ℕ → Type 0
 MayBeRestored seen name number before old image =
     before image ⊎ ((unit : StoredUnit) × IsStoredOn seen name number unit × RecoversOneOf old (insert old name unit) image)
@@ -40,8 +40,7 @@ abbrev pub HasNoRoom : (seen name : List ℕ) → StoredUnit → Type 0
 HasNoRoom seen name unit =
     (commands : List LibraryCommand) × (has : HasCommands seen commands) × (has.area < room_of (has.bodies ++ body_of (putting (library_of commands) name unit) ∷ []))
 
--- why a unit is not put into a library: the library is not opened; or there is no room, and `no_room` holds then; or the device
--- failed
+-- why a unit is not put into a library: the library is not opened; or there is not enough room, and `no_room` holds; or the device failed
 abbrev pub IsNotPut : (honest : Bool) (seen : List ℕ) (before after : ℕ) (no_room : Type 0) → LibraryFault → Type 0
 IsNotPut honest seen before after no_room Full = (after ≡ before) × (IsTrue honest → no_room)
 IsNotPut honest seen before after no_room DiskFault = after ≡ before + 1

@@ -1,2 +1,2 @@
--- What is stated for a disk, here for commands and images.
+-- What is stated elsewhere for a disk, stated for its commands and images.
 pub mod Steps

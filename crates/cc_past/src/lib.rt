@@ -1,7 +1,7 @@
 //! Takes out, or puts back, what a command of a library stored.
 //!
-//! `stored` has the unit that the command with a given number stored under a name, `part` takes a part of it, `restoring` puts it
-//! back. The crate exports `part_at`, `restore`, and the definitions that their contracts cite (`specs/`).
+//! `stored` has the unit that the command with a given number stored under a name, `part` takes a part of the unit, `restoring`
+//! puts the unit back. The crate exports `part_at`, `restore`, and the definitions that their contracts cite (`specs/`).
 #![tactic(auto)]
 
 mod part;

@@ -1,4 +1,4 @@
-// What a command of a library stored, put back.
+// Puts back what a command of a library stored.
 
 ghost use Rattle.std.specs.Prelude.{◌≡◌, ◌≢◌, ◌++◌, [], ◌∷◌, ℕ, List, IsTrue, IfErr, OnOk};
 ghost use Rattle.std.specs.FinMap as map;
@@ -51,8 +51,8 @@ fn put<D: Disk + Drop>(alloc: Global, disk: D, stored: Stored) -> (Result<(), Li
     }
 }
 
-/// Puts what the command with this number stored under this name back into the library on a disk, byte for byte: as an add if no unit
-/// has the name, else as a replace. The first command since the last compaction has the number 1. After Ok, every crash leaves it there.
+/// Puts what the command with this number stored under this name back into the library on a disk, byte for byte: with an Add if the name
+/// has no unit, else with a Replace. The first command since the last compaction has the number 1. After Ok, every crash leaves it there.
 ///
 /// Refusals: first those of `Library::open`, 35, 38, 37 and 40; then 33 if the bytes are not a name, 32 if the command stored nothing
 /// under that name; then 34 if the record does not fit, 35 if the device failed.
@@ -62,11 +62,11 @@ pub fn restore<D: Disk + Drop>(
     name: &[u8],
     number: usize,
 ) -> (Result<(), PartFault>, D)
-    // On an honest disk every image then has one more record, and recovers to the map before with the unit that the command
-    // stored.
+    // On an honest disk every image then has one more record, and recovers to the earlier map with the unit that the command stored.
     ensures restored { OnOk result.0 (IsTrue D.honest
         → (unit : StoredUnit) × IsRestoredBy (D.seen disk) name.now number unit (D.may_leave result.1)) }
-    // Whatever the answer, at every moment a crash leaves what one could have left before, or the earlier map, or the map after the change.
+    // Whatever the answer, a crash at any moment leaves what a crash could have left before, or the earlier map, or the map after the
+    // change.
     ensures moments { IsTrue D.honest → (units : Units) → Recovers (D.seen disk) units
         → LeavesOnly D.moment D.left_since disk result.1 (MayBeRestored (D.seen disk) name.now number (D.may_leave disk) units) }
     ensures refused { IfErr result.0 (λ fault. IsNotRestored D.honest (D.seen disk) (D.failures disk) (D.failures result.1) name.now number fault) }

@@ -1,5 +1,5 @@
--- The two ends of a ruled channel may cross threads if its messages may. This is proved for any type of message, since a search for a given
--- type would look into it.
+-- The two ends of a ruled channel may cross threads if its messages may. This is proved for any type of message, since the search for a
+-- proof would look into a given type.
 use denote.RattleType.{RattleType}
 use denote.Builtin.{unit}
 use denote.Param.Send.{IsSend, IsSync, sendable, struct_send, struct_sync, recorded_send, recorded_sync}
@@ -28,7 +28,7 @@ use Rattle.atomic_table.specs.declared.shared.TableRule.{Ghosts as TableGhosts}
 use Rattle.std.specs.contracts.alloc.Global as Global
 use Rattle.std.specs.contracts.impls.GlobalAllocator.TheImpl as heap
 
--- the channel of messages T under a rule P over views V
+-- the channel of messages of type T, under a rule P over views V
 abbrev channel : (T V P : RattleType) → Ghosts P.Denot T.Denot V.Denot → RattleType
 channel T V P g = Rows.the_row (Badge.the_row (Key.the_row T)) (Doing.the_row T V) (Rounds.the_row P) (Option.the_row T) (Key.the_row T) (Lockers.the_row Whole.the_row) Global.the_row
     (rounds.ghosts T V P g rounds.no_dict) (lockers.ghosts T T Whole.the_row (whole.ghosts T) lockers.no_dict) heap.ghosts

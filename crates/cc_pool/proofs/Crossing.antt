@@ -1,5 +1,5 @@
--- What goes to a worker may cross threads. The trees of a unit are recursive, so this is shown for each type separately, from the
--- bottom up.
+-- What goes to a worker may cross threads. The trees of a unit are recursive, so this is proved for each type separately, from
+-- the bottom up.
 use denote.Param.Send.{IsSend, IsSync, sendable, recorded_send, recorded_sync, view_send, view_sync, struct_send, struct_sync, enum_send, enum_sync}
 use denote.Struct.Declared.{shape}
 use denote.Enum.Declared.{shape as enum_shape}

@@ -3,7 +3,7 @@ use Rattle.std.proofs.Common.{◌≡◌, ℕ, zero, suc, ◌+◌, List, [], ◌�
 use Rattle.cc_pool.specs.declared.item.Item.TheVariants.{Stop}
 use Rattle.cc_pool.specs.Shared.{Lists, piece_of, pieces_from, pieces_of, stops, sent_by}
 
--- one more stop item
+-- one more stop item may as well be added at the end
 stop_more : (n : ℕ) → stops (suc n) ≡ stops n ++ Stop ∷ []
 stop_more zero = refl
 stop_more (suc n) = ap (λ l. Stop ∷ l) (stop_more n)
@@ -11,12 +11,12 @@ stop_more (suc n) = ap (λ l. Stop ∷ l) (stop_more n)
 pub stop_next : (n : ℕ) → stops (n + 1) ≡ stops n ++ Stop ∷ []
 stop_next n = let m : n + 1 ≡ suc n = omega arith in ap stops m ∙ stop_more n
 
--- one more pass
+-- if one more pass is added at the end, so is what it has sent
 pub sent_more : (ps : List Lists) (p : Lists) → sent_by (ps ++ p ∷ []) ≡ sent_by ps ++ p.sent
 sent_more [] p = append-nil p.sent
 sent_more (q ∷ ps) p = ap (λ l. q.sent ++ l) (sent_more ps p) ∙ sym (append_assoc q.sent (sent_by ps) p.sent)
 
--- one more function
+-- if one more function is counted, its item is added at the end
 piece_more : (job from count : ℕ) → pieces_from job from (suc count) ≡ pieces_from job from count ++ piece_of job (from + count) ∷ []
 piece_more job from zero = ap (λ f. piece_of job f ∷ []) (omega arith)
 piece_more job from (suc count) =

@@ -1,4 +1,5 @@
--- Two lists that weigh the same, however items are weighed, have the same items, each as often.
+-- Two lists that weigh the same, however items are weighed, have the same items, each the same number of
+-- times.
 use Rattle.std.proofs.Common.{◌≡◌, ℕ, zero, suc, ◌<◌, cond, eqb, List, [], ◌∷◌, ◌++◌, sym, refl, ap, subst, arith}
 use Rattle.std.specs.List.{sum_by}
 use Rattle.std.specs.Prelude.{IsPermutation}
@@ -20,7 +21,7 @@ same_self a = grind (arith, nat_tests)
 same_is : (a b : ℕ) → 0 < same a b → a ≡ b
 same_is a b p = grind (arith, nat_tests)
 
--- how often the first item is the second: once if they are the same, otherwise never
+-- 1 if both items are the same, otherwise 0
 abbrev is_item : Item → Item → ℕ
 is_item (Piece a) (Piece b) = cond (eqb a.job b.job) (same a.function b.function) 0
 is_item (Piece a) Stop = 0
@@ -40,7 +41,7 @@ item_is (Piece a) Stop p = absurd (omega (arith, p))
 item_is Stop (Piece b) p = absurd (omega (arith, p))
 item_is Stop Stop p = refl
 
--- the place of an item in a list
+-- the item occurs in the list, after `prefix` and before `back`
 abbrev Stands : Item → List Item → Type 0
 Stands x ys = (prefix : List Item) × (back : List Item) × (ys ≡ prefix ++ x ∷ back)
 

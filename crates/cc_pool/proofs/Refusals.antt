@@ -1,5 +1,5 @@
--- A refusal names a function of a program's text: what `compile_function_in` says about the tree of a checked unit holds for its
--- text.
+-- A refusal names a function of a program's text: what `compile_function_in` says about the tree of a checked unit is true of
+-- the unit's text.
 use Rattle.std.proofs.Common.{◌≡◌, ℕ, suc, ◌<◌, List, [], ◌∷◌, length, map, refl, ap, subst}
 use Rattle.std.proofs.Math.Logic.{∥∥₁_map}
 use Rattle.cc_ast.specs.Tree.{Name, External, Source, Declaration, Definition, Objects}

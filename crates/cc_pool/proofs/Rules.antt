@@ -17,7 +17,7 @@ use Rattle.cc_pool.specs.Rule.{Kept, SeesAll, owns, is_out, is_live, first_hand,
 
 -- ---- sums over views
 
--- the sum after a change of one view
+-- if one view changes, the sum changes by the difference of the two views
 changed : (f : Hand → ℕ) (views : List Hand) (k : ℕ) (v w : Hand) → get_elem? views k ≡ some v → sum_by f (set views k w) + f v ≡ sum_by f views + f w
 changed f [] k v w e = absurd (some-ne-none v (sym e))
 changed f (x ∷ xs) zero v w e = omega (arith, sum_by-cons f x xs, sum_by-cons f w xs, ap f (some-injective x v e))
@@ -173,7 +173,7 @@ empty_is : (queue : List Item) → length queue ≡ 0 → queue ≡ []
 empty_is [] none = refl
 empty_is (x ∷ xs) none = absurd (omega (arith, none))
 
--- if the queue was empty at some moment, all that was sent has been taken
+-- if the pool's own pass saw the queue empty, and no other pass was left, all that was sent has been taken
 pub all_taken : (v : Hand) → Held 0 (SeesAll v) → AllTaken v
 all_taken v h own same =
     let none : v.taken ++ h.0 ≡ v.taken = ap (λ l. v.taken ++ l) (empty_is h.0 h.1) ∙ append-nil v.taken in

@@ -2,7 +2,7 @@
 use Rattle.std.specs.Prelude.{ℕ, List}
 use Rattle.cc_c_semantics.specs.declared.mode.Mode.{Mode}
 
--- a function of a job; both are given by their numbers
+-- a function of a job: the job's number and the function's number
 pub record JobFunction : Type 0 where
   pub job : ℕ
   pub function : ℕ

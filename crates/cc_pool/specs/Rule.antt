@@ -1,4 +1,4 @@
--- The rule of the queue: what all passes have sent is what all have taken together with what the queue holds.
+-- The rule of the queue: what all passes have sent is what they have taken together with what the queue holds.
 use Rattle.std.specs.Prelude.{◌≡◌, ℕ, ◌+◌, List, [], ◌∷◌, ◌++◌, sum_by}
 use mathlib.Core.Option.{some}
 use lib.ListN.{get_elem?}
@@ -35,25 +35,25 @@ joins_one v w = hand v.role v.splits (v.joins + 1) (v.sent ++ w.sent) (v.taken +
 
 -- ---- the rule
 
--- 1 for the pool's own pass
+-- 1 for the pool's own pass, else 0
 abbrev pub owns : Role → ℕ
 owns Owner = 1
 owns Out = 0
 owns Joined = 0
 
--- 1 for a pass that is out
+-- 1 for a pass that is out, else 0
 abbrev pub is_out : Role → ℕ
 is_out Owner = 0
 is_out Out = 1
 is_out Joined = 0
 
--- 1 for a pass that may send and take
+-- 1 for a pass that may send and take, else 0
 abbrev pub is_live : Role → ℕ
 is_live Owner = 1
 is_live Out = 1
 is_live Joined = 0
 
--- both lists weigh the same, however items are weighed: each item is in one as often as in the other
+-- both lists weigh the same, however items are weighed: each item occurs in both equally often
 abbrev pub SameItems : List Item → List Item → Type 0
 SameItems xs ys = (h : Item → ℕ) → sum_by h xs ≡ sum_by h ys
 
@@ -61,8 +61,8 @@ SameItems xs ys = (h : Item → ℕ) → sum_by h xs ≡ sum_by h ys
 abbrev pub Balanced : (queue : List Item) (passes : List Hand) → Type 0
 Balanced queue passes = (h : Item → ℕ) → sum_by (λ v. sum_by h v.sent) passes ≡ sum_by (λ v. sum_by h v.taken) passes + sum_by h queue
 
--- The pool has one pass of its own, and only that pass counts splits and joins: the number of passes out is that of splits minus
--- that of joins. A joined pass has nothing any more
+-- The pool has one pass of its own, and only that pass counts splits and joins: the number of passes out is the number of splits
+-- minus that of joins. A joined pass has nothing left
 pub record Kept (queue : List Item) (passes : List Hand) : Type 0 where
   pub one : sum_by (λ v. owns v.role) passes ≡ 1
   pub counted : sum_by (λ v. is_out v.role) passes + sum_by (λ v. v.joins) passes ≡ sum_by (λ v. v.splits) passes
@@ -70,6 +70,6 @@ pub record Kept (queue : List Item) (passes : List Hand) : Type 0 where
   pub empty : (k : ℕ) (v : Hand) → get_elem? passes k ≡ some v → is_live v.role ≡ 0 → (v.sent ≡ []) × (v.taken ≡ [])
   pub balanced : Balanced queue passes
 
--- if the pool's own pass has as many joins as splits, its lists have all that was sent and taken
+-- if the pool's own pass has as many joins as splits, it has sent what it has taken and what the queue holds
 abbrev pub SeesAll : Hand → List Item → Type 0
 SeesAll v queue = v.role ≡ Owner → v.splits ≡ v.joins → SameItems v.sent (v.taken ++ queue)

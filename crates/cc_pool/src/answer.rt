@@ -22,8 +22,8 @@ pub enum Answer {
     Refused(Refusal),
 }
 
-/// A function that a worker refused, for a reason other than lack of memory. Contracts see the mode, its text, its number and the
-/// reason.
+/// A function that a worker refused for a reason other than lack of memory. Contracts see the mode, the function's text and
+/// number, and the reason.
 #[derive(Drop)]
 pub struct Refusal {
     mode: Mode,
@@ -45,7 +45,7 @@ impl Model for Refusal {
     ghost invariant = { λ r. IsRefusedAt r.mode (source (arc_value r.unit)).text r.function r.fault };
 }
 
-// The answer for a function of a unit in a mode; None if memory ran out.
+// The answer for a function of a unit in a mode, or `None` if memory ran out.
 pub(crate) fn answered(
     alloc: Global,
     mode: Mode,

@@ -1,6 +1,6 @@
-// The queue's two ends, and a pass of it. Only these functions call the channel.
+// The queue's two ends, and its passes. Only the functions here call the channel.
 //
-// Whoever holds one end holds the other. A worker that waits on the queue itself keeps it open, so its receive ends with an item,
+// Whoever holds one end holds the other. A worker that waits on the queue keeps it open itself, so its receive ends with an item,
 // never because all senders are gone.
 
 ghost use Rattle.std.specs.Prelude.{◌≡◌, OnErr, OnOk, IfSome, IfNone};
@@ -18,7 +18,7 @@ use std::sync::Wait;
 
 type Place = crossbeam_channel::Pass<Item, Hand>;
 
-/// The queue holds at most this many items.
+/// The largest number of items that the queue holds.
 pub const PLACES: usize = 64;
 
 // The ends of a queue that no type names.
@@ -34,7 +34,7 @@ pub struct FreshQueue {
     pass: Place,
 }
 
-// Written by hand, so that crates above use this proof and need not show again how each part is dropped.
+// Written by hand, so that crates that use this one rely on this proof and need not prove again how each part is dropped.
 impl Drop for FreshQueue {
     fn drop(self) {
         let FreshQueue { queue, pass } = self;
@@ -101,7 +101,7 @@ impl FreshQueue {
         })
     }
 
-    // The queue, once a type names it.
+    // The two ends and the pool's own pass of a queue that a type names.
     pub(crate) fn open<N: Queued>(self) -> (Ends<N>, Seat<N>)
         requires { self ≡ N.queue }
         ensures { result.1 ≡ first_hand }
@@ -129,7 +129,7 @@ impl<N: Queued> Ends<N> {
         })
     }
 
-    // Adds an item at the end of the queue. This waits while the queue is full, and fails only if all receivers are gone.
+    // Adds an item at the end of the queue. Waits while the queue is full, and fails only if all receivers are gone.
     pub(crate) fn send<R: Wait>(&self, rt: &R, seat: &mut Seat<N>, item: Item) -> Result<(), Item>
         requires { is_live seat.old.role ≡ 1 }
         ensures ok { OnOk result (seat.new ≡ sends_one seat.old item) }
@@ -145,7 +145,7 @@ impl<N: Queued> Ends<N> {
         }
     }
 
-    // Takes the first item. This waits while there is none, and answers None only if all senders are gone.
+    // Takes the first item. Waits while there is none, and answers `None` only if all senders are gone.
     pub(crate) fn take<R: Wait>(&self, rt: &R, seat: &mut Seat<N>) -> Option<Item>
         requires { is_live seat.old.role ≡ 1 }
         ensures some { IfSome result (λ item. seat.new ≡ takes_one seat.old item) }
@@ -157,8 +157,8 @@ impl<N: Queued> Ends<N> {
             .ok()
     }
 
-    // Takes the first item, if there is one. If there is none, and no pass is out except the pool's own, all that was sent has
-    // been taken.
+    // Takes the first item, if there is one. If there is none, and the pool's own pass is the only one left, all that was sent
+    // has been taken.
     pub(crate) fn try_take<R: Wait>(&self, rt: &R, seat: &mut Seat<N>) -> Option<Item>
         requires { is_live seat.old.role ≡ 1 }
         ensures some { IfSome result (λ item. seat.new ≡ takes_one seat.old item) }

@@ -12,8 +12,8 @@ pub enum PoolFault {
     /// 22, 24: a worker refused the function with this number.
     #[error("{fault}")]
     Piece { function: usize, fault: PieceFault },
-    /// 41: a thread could not be started, the queue is closed, there are no more job numbers, a job's answers ended early, or a pool's
-    /// passes did not all come back.
+    /// 41: a thread could not be started, the queue is closed, there are no more job numbers, a job's answers ended early, or not all
+    /// of a pool's passes came back.
     #[error("WorkersGone")]
     WorkersGone,
     /// 40: memory ran out.
@@ -22,7 +22,7 @@ pub enum PoolFault {
 }
 
 impl PoolFault {
-    /// The fault's number: that of the piece's fault, 41 or 40.
+    /// The fault's number: the number of the piece's fault, or 41 or 40.
     pub fn number(&self) -> u32
         ensures { result ≡ pool_fault_number self.now }
     {

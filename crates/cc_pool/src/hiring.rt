@@ -1,7 +1,7 @@
 // How workers start and end.
 //
-// A worker that ends hands its pass back over a channel that has a place for each worker. The handle of its thread is dropped: a handle
-// stays with the thread that made it, and the pool is shared by many threads.
+// A worker that ends hands its pass back over a channel with a place for each worker. The handle of a worker's thread is dropped, since
+// a handle cannot leave the thread that made it, and many threads share the pool.
 
 ghost use Rattle.std.specs.Prelude.{◌≡◌, ◌+◌, ◌++◌, length, OnOk};
 ghost use Rattle.cc_pool.specs.declared.rule.Role.TheVariants.{Owner};
@@ -22,7 +22,7 @@ use std::thread::{Builder, Threads};
 /// A worker's stack in bytes: as large as a main thread's usually is, so that a worker can do what the main thread can.
 const STACK: usize = 8 << 20;
 
-// Starts this many workers, which hand their passes back over `back`. Answers how many were started: all of them if there is no
+// Starts this many workers, which hand their passes back over `back`. Answers how many workers were started: all of them if there is no
 // fault.
 pub(crate) fn hire<N, R, G>(
     rt: &R,
@@ -79,7 +79,7 @@ fn another<N: Queued>(back: &Sender<Taker<N>>) -> Result<Sender<Taker<N>>, Alloc
     Ok(back.clone()?)
 }
 
-// Starts a thread that works like this. Answers whether it was started.
+// Starts a worker's thread, and answers whether the thread was started.
 fn spawned<N, R, G>(
     rt: R,
     alloc: Global,
@@ -99,7 +99,7 @@ where
         .is_ok()
 }
 
-// Makes each of this many workers stop, and takes the pass of each back.
+// Makes each of this many workers stop, and takes back the pass of each.
 pub(crate) fn dismiss<N: Queued, R: Wait>(
     rt: &R,
     ends: &Ends<N>,
@@ -117,7 +117,7 @@ pub(crate) fn dismiss<N: Queued, R: Wait>(
     take_back(rt, ends, seat, back, count)
 }
 
-// Takes the passes of this many workers back.
+// Takes back the passes of this many workers.
 fn take_back<N: Queued, R: Wait>(
     rt: &R,
     ends: &Ends<N>,

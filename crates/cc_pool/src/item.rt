@@ -22,8 +22,8 @@ pub enum Item {
     Stop,
 }
 
-/// A function of a unit that has to be compiled in a mode, and where the answer goes. Contracts see the number of the job and the
-/// number of the function.
+/// A function of a unit that is to be compiled in a mode, and where the answer goes. Contracts see the job's number and the
+/// function's number.
 #[derive(Drop)]
 pub struct Order {
     job: u64,

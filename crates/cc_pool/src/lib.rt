@@ -1,12 +1,13 @@
 //! Workers that compile the functions of units in parallel.
 //!
-//! The functions of a unit go to the workers as items of one queue with 64 places. Each worker's answer comes back on a channel
-//! of the job's own, which has a place for each function. The queue has a rule that is proved: what all passes have sent is what
-//! all have taken together with what the queue holds, each item the same number of times.
+//! The functions of a unit go to the workers as items of one queue with 64 places. Each worker's answer comes back on the job's
+//! own channel, which has a place for each function. It is proved that the queue keeps a rule: the items that all passes have
+//! sent are those that they have taken together with those that the queue holds, each the same number of times.
 //!
-//! `rule` has the rule and its six kinds of step, `ends` the queue's two ends, `seats` the holders of passes, `item` what goes to
-//! a worker, `answer` what comes back, `worker` the worker's loop, `gate` the call before each piece, `hiring` how workers start
-//! and end, `ticket` a job that was handed in, `ordering` how its answers are put in order, and `pool` puts all together.
+//! `rule` has the rule and its six kinds of step, `ends` has the queue's two ends, `seats` has the holders of passes, `item` has
+//! what goes to a worker, `answer` has what comes back, `worker` has the worker's loop, `gate` has the call before each piece,
+//! `hiring` starts and ends workers, `ticket` has a job that was handed in, `ordering` puts a job's answers in order, and `pool`
+//! puts everything together.
 #![tactic(auto)]
 
 mod answer;

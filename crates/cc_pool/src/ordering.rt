@@ -18,14 +18,14 @@ use crossbeam_channel::Receiver;
 use std::alloc::{AllocError, Global};
 use std::sync::Wait;
 
-// The answers that came, in the order in which they came.
+// The answers that came, in order of arrival.
 #[derive(Drop)]
 pub(crate) struct Came {
     pieces: Vec<Piece>,
     refusals: Vec<Refusal>,
 }
 
-// This many answers, or, if the answers end early, those that came before. Err: memory ran out.
+// This many answers, or, if the answers end early, those that came until then. Err: memory ran out.
 pub(crate) fn gather<R: Wait>(
     rt: &R,
     alloc: Global,
@@ -44,7 +44,7 @@ pub(crate) fn gather<R: Wait>(
     Ok(Came { pieces, refusals })
 }
 
-// The fault for a function whose piece did not come: the reason that came for it, otherwise 41.
+// The fault for a function whose piece did not come: the reason that a worker gave, otherwise 41.
 fn reason(mode: Mode, text: &[u8], function: usize, refusals: &[Refusal]) -> PoolFault
     ensures { IsReason mode text.now function result }
 {
@@ -83,8 +83,8 @@ fn piece_of(pieces: &mut Vec<Piece>, mode: Mode, text: &[u8], function: usize) -
     Some(pieces.swap_remove(at))
 }
 
-// The pieces of this many functions of a text in a mode, in their order. Otherwise the fault for the first function whose piece
-// did not come.
+// The pieces of this many functions of a text in a mode, in the order of functions, or the fault for the first function whose
+// piece did not come.
 pub(crate) fn in_order(
     alloc: Global,
     mode: Mode,
@@ -106,7 +106,7 @@ pub(crate) fn in_order(
         let Some(piece) = piece_of(&mut made, mode, text, function) else {
             return Err(reason(mode, text, function, refusals.as_slice()));
         };
-        // What the types of the piece and of its unit keep.
+        // Gives the proof what the types of the piece and of its unit keep.
         let _kept = piece.items();
         let other: &TypedUnit = piece.unit();
         let _kept = other.externals();

@@ -29,7 +29,7 @@ use std::sync::atomic::{AtomicU64, Ordering};
 use std::sync::{Arc, Mutex, Wait};
 use std::thread::Threads;
 
-/// Workers that compile the functions of units. Contracts see the pool's own number of workers, from which `finish` counts.
+/// Workers that compile the functions of units. Contracts see the pool's number of workers, by which `finish` counts stop items.
 pub struct Pool<N: Queued> {
     ends: Ends<N>,
     own: Mutex<Own<N>>,
@@ -38,7 +38,7 @@ pub struct Pool<N: Queued> {
     jobs: AtomicU64,
 }
 
-// Written by hand, so that crates above use this proof and need not show again how each part is dropped.
+// Written by hand, so that crates that use this one rely on this proof and need not prove again how each part is dropped.
 impl<N: Queued> Drop for Pool<N> {
     fn drop(self) {
         let Pool {
@@ -61,10 +61,10 @@ impl<N: Queued> Model for Pool<N> {
 
 impl<N: Queued + Send + Sync + 'static> Pool<N> {
     /// Starts this many workers, which call the gate before each piece. Each worker has a stack of 8 MiB. The contract promises
-    /// the pool's own number of workers, from which `finish` counts.
+    /// only that the pool has this number of workers, by which `finish` counts stop items.
     ///
-    /// Refusals: 40 if memory ran out; 41 if a thread could not be started. The workers that were started have then been asked to
-    /// stop.
+    /// Refusals: OutOfMemory (40) if memory ran out; WorkersGone (41) if a thread could not be started. Before a refusal, the
+    /// workers that were started are asked to stop.
     pub fn start<R, G>(
         rt: &R,
         alloc: Global,
@@ -101,7 +101,7 @@ impl<N: Queued + Send + Sync + 'static> Pool<N> {
         }
     }
 
-    /// A pass for handing in jobs. It has sent and taken nothing.
+    /// A pass for handing in jobs, which has sent and taken nothing yet.
     pub fn pass<R: Wait>(&self, rt: &R) -> Pass<N>
         ensures sent { result.sent ≡ [] }
         ensures taken { result.taken ≡ [] }
@@ -128,10 +128,10 @@ impl<N: Queued + Send + Sync + 'static> Pool<N> {
     }
 
     /// Hands in a unit for pieces in a mode: an item for each of its functions, in the order of their definitions and with the
-    /// job's number, is put after what the pass has sent. This waits while the queue is full.
+    /// job's number, is added to what the pass has sent. Waits while the queue is full.
     ///
-    /// Refusals: 40 if memory ran out; 41 if the queue is closed or 2^64 - 1 jobs were handed in. Some of the items may have been
-    /// sent then: the first ones of one job, and nothing else.
+    /// Refusals: OutOfMemory (40) if memory ran out; WorkersGone (41) if the queue is closed or 2^64 - 1 jobs were handed in.
+    /// Some items may have been sent before a refusal: the first few of one job, and nothing else.
     pub fn submit_in<R: Wait>(
         &self,
         rt: &R,
@@ -195,9 +195,9 @@ impl<N: Queued + Send + Sync + 'static> Pool<N> {
     /// Waits for the pieces of a job: one compiled piece of its text and mode for each function, in the order of their
     /// definitions. If memory runs out, the pieces that came are dropped.
     ///
-    /// Refusals are for the first function whose piece did not come: 22 or 24 if a worker refused it, otherwise 41; and 40 if
-    /// memory ran out. Each function before one that was refused with 22 or 24 has a piece. 22 means that the function is too
-    /// long; no clause says that a function with 24 has no piece.
+    /// Refusals are for the first function whose piece did not come: FunctionTooLarge (22) or Unvalidated (24) if a worker
+    /// refused it, otherwise WorkersGone (41); and OutOfMemory (40) if memory ran out. Each function before one that was refused
+    /// with 22 or 24 has a piece. With 22 the function is too long; no clause says that a function refused with 24 has no piece.
     pub fn collect<R: Wait>(
         &self,
         rt: &R,
@@ -212,11 +212,11 @@ impl<N: Queued + Send + Sync + 'static> Pool<N> {
         ticket.collect(rt, alloc)
     }
 
-    /// Ends the pool. Each worker is asked to stop, after all that was sent; then the call waits until the workers have handed
-    /// their passes back, and takes in these and the given passes. All that was sent, by these passes and to stop the workers,
-    /// has been taken, each item once, so no item is left on the queue.
+    /// Ends the pool. Each worker is asked to stop after all that was sent; then the call waits until the workers have handed
+    /// their passes back, and joins these and the given passes. All that was sent, by these passes and to stop the workers, has
+    /// then been taken, each item once, so no item is left on the queue.
     ///
-    /// Refusal: 41 if the passes are not all that were made, or if an item is left.
+    /// Refusal: WorkersGone (41) if the passes are not all that were made, or if an item is left.
     pub fn finish<R: Wait>(self, rt: &R, passes: Vec<Pass<N>>) -> Result<Drained<N>, PoolFault>
         ensures { IfOk result (λ all. IsDrained self passes.items all) }
     {

@@ -16,7 +16,7 @@ pub struct Pass<N: Queued> {
     seat: Seat<N>,
 }
 
-// Written by hand, so that crates above use this proof and need not show again how each part is dropped.
+// Written by hand, so that crates that use this one rely on this proof and need not prove again how each part is dropped.
 impl<N: Queued> Drop for Pass<N> {
     fn drop(self) {
         let Pass { seat } = self;
@@ -77,7 +77,7 @@ pub struct Drained<N: Queued> {
     seat: Seat<N>,
 }
 
-// Written by hand, so that crates above use this proof and need not show again how each part is dropped.
+// Written by hand, so that crates that use this one rely on this proof and need not prove again how each part is dropped.
 impl<N: Queued> Drop for Drained<N> {
     fn drop(self) {
         let Drained { seat } = self;
@@ -97,7 +97,7 @@ impl<N: Queued> Model for Drained<N> {
 }
 
 impl<N: Queued> Pass<N> {
-    // Adds an order to what was sent.
+    // Sends an order, which is added to what the pass has sent.
     pub(crate) fn send<R: Wait>(&mut self, rt: &R, ends: &Ends<N>, order: Order) -> Result<(), Item>
         ensures ok { OnOk result (self.new.sent ≡ self.old.sent ++ Piece order ∷ []) }
         ensures err { OnErr result (self.new.sent ≡ self.old.sent) }
@@ -117,7 +117,7 @@ impl<N: Queued> Pass<N> {
 }
 
 impl<N: Queued> Taker<N> {
-    // The next item.
+    // Takes the next item from the queue.
     pub(crate) fn take<R: Wait>(&mut self, rt: &R, ends: &Ends<N>) -> Option<Item> {
         ends.take(rt, &mut self.seat)
     }
@@ -138,7 +138,7 @@ impl<N: Queued> Own<N> {
         Own { seat, out: Some(0) }
     }
 
-    /// A pass with empty lists.
+    /// A new pass, which has sent and taken nothing.
     pub(crate) fn pass(&mut self, ends: &Ends<N>) -> Pass<N>
         ensures sent { result.sent ≡ [] }
         ensures taken { result.taken ≡ [] }

@@ -27,7 +27,7 @@ pub struct Ticket {
     answers: Receiver<Answer>,
 }
 
-// Written by hand, so that crates above use this proof and need not show again how each part is dropped.
+// Written by hand, so that crates that use this one rely on this proof and need not prove again how each part is dropped.
 impl Drop for Ticket {
     fn drop(self) {
         let Ticket {
@@ -71,8 +71,8 @@ impl Ticket {
         }
     }
 
-    /// The job's number, which its items on the queue have. A pool numbers its jobs from 0 in the order in which they are handed in; no
-    /// clause says so.
+    /// The job's number, which the job's items on the queue carry. A pool numbers its jobs from 0 on in the order in which they are
+    /// handed in, although no clause says so.
     pub fn number(&self) -> u64
         ensures { result ≡ self.now.number }
     {

@@ -9,8 +9,8 @@ use crossbeam_channel::Sender;
 use std::alloc::Global;
 use std::sync::Wait;
 
-// Makes pieces until the item comes that makes the worker stop, and then hands its pass back. Nothing else ends the loop: a
-// receive that fails is tried again.
+// Makes pieces until a stop item comes, and then hands the worker's pass back. Nothing else ends the loop: a receive that
+// fails is tried again.
 pub(crate) fn work<N: Queued, G: Gate, R: Wait>(
     rt: &R,
     alloc: Global,

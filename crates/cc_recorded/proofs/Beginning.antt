@@ -1,4 +1,5 @@
--- A book over a library that was opened shows a state of the core: the one that the core has after opening that disk.
+-- A book over a library that was opened shows a state of the core: the one that the core is in after opening that
+-- disk.
 use Rattle.std.proofs.Common.{◌≡◌, ℕ, zero, suc, ◌+◌, ◌<◌, Bool, true, false, List, [], ◌∷◌, ◌++◌, length, map, Option, Some, refl, sym, ap, ◌∙◌, subst, arith}
 use Rattle.std.specs.Prelude.{slice_get}
 use Rattle.std.specs.FinMap.{empty}
@@ -63,12 +64,13 @@ settled_alone [] (x ∷ image) here = absurd here
 settled_alone (b ∷ l) [] here = absurd here
 settled_alone (b ∷ l) (x ∷ image) here = (λ i. here.0 refl i ∷ settled_alone l image here.1 i)
 
--- the same kind of disk, taken as honest
+-- this kind of disk, taken as honest
 abbrev pub honest_kind : {Disk : Type 0} → Ghosts Disk → Ghosts Disk
 honest_kind D = record D { honest = true }
 
 module _ {Disk P : Type 0} (D : Ghosts Disk) where
-  -- on an honest disk the state that the book shows is a beginning of the core, if the units that were found are right
+  -- on an honest disk the state that the book shows is an initial state of the core, if the units that were found are
+  -- right
   pub begins : (book : BookView Disk) → book.history ≡ [] → book.failed ≡ [] → book.library.closed ≡ false → book.base ≡ book.library.units → StandFor book.library.bodies book.library.units
       → HoldsRecords (D.seen book.library.disk) book.library.area book.library.bodies → LeavesAlone (D.seen book.library.disk) (D.may_leave book.library.disk)
       → (s : Contents P) × Shows (honest_kind D) book s × IsOpened s
@@ -136,7 +138,8 @@ same_core D book old new same shows = record {
   disk = subst (λ (c : Core). ShowsDisk D book.library c.store) (sym same) shows.disk;
 }
 
--- handing in a job, taking a piece and handing in its result leave the core as it is, and so also what a book shows
+-- handing in a job, taking a piece and handing in its result leave the core as it is, so the book still shows the
+-- state
 pub beside : {Disk P : Type 0} (rules : Rules P) (D : Ghosts Disk) (book : BookView Disk) (old new : Contents P) (event : Event P) (reply : Option Reply)
     → IsBeside event → Step rules old event reply new → Shows D book old → Shows D book new
 beside rules D book old new (events.Submit client call request) reply is step shows = same_core D book old new (ap (λ (s : Contents _). s.core) step.new_is) shows

@@ -1,4 +1,4 @@
--- How it is kept that changes failed only because the device did: only a device call that fails adds one.
+-- Changes failed only because the device did: only a device call that fails adds a failed change.
 use Rattle.std.proofs.Common.{◌≡◌, ◌+◌, ◌≤◌, ℕ, List, [], ◌∷◌, length, Result, Ok, Err, refl, sym, ap, subst, arith}
 use Rattle.cc_disk.specs.declared.disk.Disk.{Ghosts}
 use Rattle.cc_library.specs.Change.{LibraryCommand}
@@ -14,20 +14,20 @@ use Rattle.cc_recorded.specs.Answers.{CommitAnswers, CompactAnswers, LookAnswers
 use Rattle.cc_recorded.specs.Promise.{FailedByDevice}
 
 module _ {Disk : Type 0} (D : Ghosts Disk) (failures : ℕ) where
-  -- at the opening
+  -- at the opening no change has failed
   pub none_failed : (book : BookView Disk) → book.failed ≡ [] → failures ≤ D.failures book.library.disk → FailedByDevice D failures book
   none_failed book none most = let few = ap (λ (l : List LibraryCommand). length l) none in omega (arith, few, most)
 
   module _ (before after_it : BookView Disk) (kept : FailedByDevice D failures before) where
-    -- nothing was done
+    -- if nothing was done, the count stays right
     same : after_it ≡ before → FailedByDevice D failures after_it
     same stays = subst (λ (b : BookView Disk). FailedByDevice D failures b) (sym stays) kept
 
-    -- no change failed, and no device call did
+    -- if no further change failed, and no further device call, the count stays right
     as_many : after_it.failed ≡ before.failed → D.failures after_it.library.disk ≡ D.failures before.library.disk → FailedByDevice D failures after_it
     as_many failed device = let few = ap (λ (l : List LibraryCommand). length l) failed in omega (arith, few, device, kept)
 
-    -- a device call failed, and with it a change, or none
+    -- if one device call failed, and at most one change, the count stays right
     one_more : (c : LibraryCommand) → after_it.failed ≡ c ∷ [] → D.failures after_it.library.disk ≡ D.failures before.library.disk + 1 → FailedByDevice D failures after_it
     one_more c failed device = let few = ap (λ (l : List LibraryCommand). length l) failed in omega (arith, few, device, kept)
 

@@ -1,5 +1,5 @@
--- What each exit of a commit owes, in terms of what contracts see of a book: that what its type keeps still holds, and the
--- answer.
+-- What has to be shown at each exit of a commit, in terms of what contracts see of a book: that what its type keeps still
+-- holds, and the answer.
 use Rattle.std.proofs.Common.{◌≡◌, ℕ, zero, suc, ◌+◌, inl, inr, Bool, true, false, IsTrue, List, [], ◌∷◌, ◌++◌, length, Result, Ok, Err, refl, sym, ap, ◌∙◌, subst, arith, length-append}
 use Rattle.std.specs.Prelude.{◌==◌, IsOk, if◌then◌else◌}
 use Rattle.cc_disk.specs.declared.disk.Disk.{Ghosts}
@@ -29,11 +29,11 @@ agreed-push history entry old new k found at =
     elim (snoc_cases history entry found k at) [ inl a ↦ old k found a.1 | inr b ↦ subst (λ (e : Entry). HasAgreedUnit e.asked) (sym b.1) new ]
 
 module _ {Disk : Type 0} where
-  -- the book with one more entry, over this library
+  -- the book with one more entry, and with this library
   abbrev pub entered : BookView Disk → View Disk → Receipt → BookView Disk
   entered before library receipt = record before { library = library; history = before.history ++ receipt.entry ∷ [] }
 
-  -- the entry of a call is put at the end of the history: with the library's new map, everything is as the call leaves it
+  -- if the entry of a call is put at the end of the history, and the library has its new map, the call is recorded
   pub enters : RecordsKeep → (before : BookView Disk) (library : View Disk) (old : MemberView) (asked : Asked) (answer : Reply) (receipt : Receipt)
       → Replays (chronicle_of before) → IsOwn old → LastStands before.history old.receipts → answer ≡ reply_of before.library.units asked
       → receipt.number ≡ length before.history + 1 → receipt.entry ≡ entry_of old asked answer → library.units ≡ after_all before.library.units (changes_of asked answer)
@@ -45,7 +45,7 @@ module _ {Disk : Type 0} where
       ap (λ (u : Units). record { base = before.base; units = u; history = before.history ++ receipt.entry ∷ [] }) (sym units) in
       subst (λ (c : Chronicle). IsRecorded (chronicle_of before) old asked answer c (member_of old receipt) receipt × Replays c × IsOwn (member_of old receipt)) next made
 
-  -- what the book's type keeps still holds
+  -- with one more entry, what the book's type keeps still holds
   pub keeps_entered : (D : Ghosts Disk) (named : Units) (total total' : ℕ) (before : BookView Disk) (library : View Disk) (receipt : Receipt)
       → IsRecordedLibrary D named total before → Replays (chronicle_of (entered before library receipt)) → HasAgreedUnit receipt.entry.asked → total' ≡ total + 1
       → library.closed ≡ before.library.closed → (IsTrue D.honest → (image : List ℕ) → D.may_leave library.disk image → RecoversTo library.units before.failed image)
@@ -61,7 +61,7 @@ module _ {Disk : Type 0} where
     images = images;
   }
 
--- what the client's type keeps still holds
+-- with one more receipt, what the client's type keeps still holds
 pub keeps_member : (old : MemberView) (receipt : Receipt) (parts amount parts' amount' : ℕ) → IsMember old parts amount → parts' ≡ parts → amount' ≡ amount + 1 → IsOwn (member_of old receipt) → IsMember (member_of old receipt) parts' amount'
 keeps_member old receipt parts amount parts' amount' client part counted own = record {
   part = part ∙ client.part;
@@ -89,7 +89,7 @@ alone_of D named total book kept idle h image left =
 
 -- ---- what the library answered
 
--- a change with this answer is accepted
+-- a reply of Exists or Absent is not Done
 not_done : (b : Bool) → (if b then reply.Exists else reply.Absent) ≡ reply.Done → ⊥
 not_done true is = cc
 not_done false is = cc
@@ -100,8 +100,8 @@ done_is_ok (Err number) is = absurd (not_done (number == 31) is)
 
 -- ---- an exit with an entry
 
--- The book and the client after a call whose entry was put in, over this library: what their types keep still holds, and the
--- call is recorded.
+-- After a call whose entry was put in, with this library, what the types of the book and the client keep still holds, and
+-- the call is recorded.
 pub entering : RecordsKeep → {Disk : Type 0} (D : Ghosts Disk) (named : Units) (total total' : ℕ) (before : BookView Disk) (new_library : View Disk) (old : MemberView) (parts amount parts' amount' : ℕ)
     (asked : Asked) (answer : Reply) (history : List Entry) (receipts : List Receipt) (receipt : Receipt)
     → IsRecordedLibrary D named total before → IsMember old parts amount → LastStands before.history old.receipts → answer ≡ reply_of before.library.units asked → HasAgreedUnit asked
@@ -122,7 +122,7 @@ entering keep D named total total' before new_library old parts amount parts' am
           (subst (λ (r : List Receipt). IsRecorded (chronicle_of before) old asked answer (chronicle_of (entered before new_library receipt)) (record old { receipts = r }) receipt) (sym receipts_is) made.0),
     )
 
--- the parts of a receipt
+-- if a receipt is made from a number and an entry, these are its parts
 pub receipt_is : (receipt : Receipt) (number : ℕ) (entry : Entry) → receipt ≡ record { number = number; entry = entry } → (receipt.number ≡ number) × (receipt.entry ≡ entry)
 receipt_is receipt number entry is = (ap (λ (r : Receipt). r.number) is, ap (λ (r : Receipt). r.entry) is)
 
@@ -132,7 +132,7 @@ only_agreed : (c : made.LibraryCommand) → HasAgreed c → AllAgreed (c ∷ [])
 only_agreed c agrees zero d at = let same : c ≡ d = cc in subst HasAgreed same agrees
 only_agreed c agrees (suc k) d at = absurd (cc)
 
--- what the book's type keeps still holds
+-- after the device has failed in a change, what the book's type keeps still holds
 pub keeps_failed : {Disk : Type 0} (D : Ghosts Disk) (named : Units) (total : ℕ) (before : BookView Disk) (new_library : View Disk) (history : List Entry) (failed : List made.LibraryCommand) (command : Command) (change : made.LibraryCommand)
     → IsRecordedLibrary D named total before → HasAgreed command → history ≡ before.history → failed ≡ before.failed ++ change ∷ [] → before.library.closed ≡ false
     → new_library ≡ record before.library { disk = new_library.disk; closed = true } → change ≡ command
@@ -158,7 +158,7 @@ keeps_failed D named total before new_library history failed command change book
       },
     )
 
--- without a device call, while the library is usable, every image has the map and no other
+-- if no device call was made, and the library is usable, every image recovers to the map and to no other map
 pub no_call_between : {Disk : Type 0} (D : Ghosts Disk) (book : BookView Disk) (next : Units)
     → (IsTrue D.honest → (image : List ℕ) → D.left_since book.library.disk (D.moment book.library.disk) image → D.may_leave book.library.disk image) → AllRecover D book
     → (book.library.closed ≡ false → book.failed ≡ []) → IsTrue D.honest → book.library.closed ≡ false

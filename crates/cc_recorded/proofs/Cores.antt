@@ -53,7 +53,7 @@ use Rattle.cc_recorded.proofs.Disks.{begin_most, begin_least, within_is_image, w
 
 -- ---- the result of the core's Begin
 
--- the refusal for a reply of the map
+-- the refusal that matches a reply of the map
 abbrev pub refusal_of : history.Reply → Option Refusal
 refusal_of reply.Done = None
 refusal_of reply.Exists = Some refusal.Exists
@@ -99,7 +99,7 @@ nothing_behind [] = refl
 nothing_behind (x ∷ xs) = ap (λ l. x ∷ l) (nothing_behind xs)
 
 module _ {Disk : Type 0} where
-  -- an entry that changes nothing
+  -- if the changes of the history stay the same, so does the order
   pub order_same : (before after : BookView Disk) (order acknowledged : List Numbered) → ShowsOrder before order acknowledged → after.base ≡ before.base → changes after.history ≡ changes before.history → after.failed ≡ before.failed → ShowsOrder after order acknowledged
   order_same before after order acknowledged shows base same failed = record {
     earlier = shows.earlier;
@@ -111,12 +111,12 @@ module _ {Disk : Type 0} where
     failed = shows.failed ∙ sym failed;
   }
 
-  -- if none failed, the whole order is acknowledged
+  -- if no change failed, the whole order is acknowledged
   all_acked : (before : BookView Disk) (order acknowledged : List Numbered) → ShowsOrder before order acknowledged → before.failed ≡ [] → order ≡ acknowledged
   all_acked before order acknowledged shows none =
       shows.in_order ∙ ap (λ (l : List Numbered). acknowledged ++ l) (no_commands shows.failing (shows.failed ∙ none)) ∙ nothing_behind acknowledged
 
-  -- one more command that is acknowledged
+  -- after one more change that was done, its command is at the end of the order and of the acknowledged commands
   order_done : (before after : BookView Disk) (order acknowledged : List Numbered) (one : Numbered) → ShowsOrder before order acknowledged → before.failed ≡ [] → after.base ≡ before.base
       → changes after.history ≡ changes before.history ++ one.command ∷ [] → after.failed ≡ [] → ShowsOrder after (order ++ one ∷ []) (acknowledged ++ one ∷ [])
   order_done before after order acknowledged one shows none base more still = record {
@@ -133,7 +133,7 @@ module _ {Disk : Type 0} where
     failed = sym still;
   }
 
-  -- one more command, in which the device failed
+  -- after one more change, in which the device failed, its command is at the end of the order only
   order_failed : (before after : BookView Disk) (order acknowledged : List Numbered) (one : Numbered) → ShowsOrder before order acknowledged → before.failed ≡ [] → after.base ≡ before.base
       → changes after.history ≡ changes before.history → after.failed ≡ one.command ∷ [] → ShowsOrder after (order ++ one ∷ []) acknowledged
   order_failed before after order acknowledged one shows none base same failed = record {
@@ -164,7 +164,7 @@ length-written cells offset bytes fits =
     omega (arith, length-append (take offset cells) (map unsettled bytes ++ drop (offset + length bytes) cells), length-append (map unsettled bytes) (drop (offset + length bytes) cells), length-map bytes unsettled, length-take-le offset cells (omega arith), length-drop (offset + length bytes) cells)
 
 module _ {Disk : Type 0} (D : Ghosts Disk) where
-  -- the commit of a change is the same as the store's
+  -- the commit of a change is the same on the library's disk and in the core's store
   same_commit : (view : View Disk) (store : StoreState) (c : LibraryCommand) → store.area ≡ view.area → store.used ≡ length (records view.bodies) → commit_of store.area_byte view c ≡ append_of store c
   same_commit view store c area used = λ i. append_commit (area_begin store.area_byte (sym area i) + sym used i) (body_of c)
 
@@ -184,7 +184,7 @@ module _ {Disk : Type 0} (D : Ghosts Disk) where
   abbrev failed_view : View Disk → Disk → View Disk
   failed_view view disk = record view { disk = disk; closed = true }
 
-  -- a change that was done
+  -- after a change that was done, the store after all four steps shows the disk
   disk_done : (view : View Disk) (store : StoreState) (c : LibraryCommand) (disk : Disk) (units : Units) → ShowsDisk D view store → view.closed ≡ false
       → (IsTrue D.honest → HoldsRecords (D.seen disk) view.area (view.bodies ++ body_of c ∷ [])
       × ((area_byte : ℕ) → HasAreaByte (D.seen view.disk) area_byte view.area → IsCommitted (commit_of area_byte view c) (D.seen view.disk) (D.seen disk) × LeavesAlone (D.seen disk) (D.may_leave disk)))
@@ -218,7 +218,7 @@ module _ {Disk : Type 0} (D : Ghosts Disk) where
       let space = h.is_area.room in
       (omega (arith, most, size, long, more, space, room, area, used), omega (arith, most, size, more, space, room, area, used))
 
-  -- a change in which the device failed, in the core's first write, or in its second
+  -- the device failed in a change: in the core's first write, or in its second
   abbrev FailsFirst : View Disk → StoreState → LibraryCommand → Disk → Type 0
   FailsFirst view store c disk = (new : StoreState) × FailsTo due.WriteBody c store new × ShowsDisk D (failed_view view disk) new
 
@@ -304,7 +304,7 @@ module _ {Disk P : Type 0} (rules : Rules P) (D : Ghosts Disk) where
       → job.verdict rules s.core.phase s.core.library s.core.store has.its ≡ job.unless why (Ok c)
   verdict_is s client c has why is = ap (job.accepted s.core.phase s.core.library s.core.store) has.gives ∙ ap (λ (w : Option Refusal). job.unless w (Ok c)) is
 
-  -- a Begin that is refused
+  -- the state after a Begin that is refused
   abbrev refused_state : Contents P → ClientId → Contents P
   refused_state s client = record s { core = ticked s.core; jobs = remove s.jobs client.number }
 
@@ -325,7 +325,7 @@ module _ {Disk P : Type 0} (rules : Rules P) (D : Ghosts Disk) where
         refl,
       )
 
-  -- a Begin that is not refused, and the states of its commit
+  -- the state after a Begin that is not refused, and the states of its commit
   abbrev begun_state : Contents P → ClientId → LibraryCommand → Contents P
   begun_state s client c = record s { core = record (ticked s.core) { order = s.core.order ++ numbered_now s.core c ∷ []; phase = Committing client (numbered_now s.core c) due.WriteBody } }
 
@@ -450,7 +450,7 @@ module _ {Disk P : Type 0} (rules : Rules P) (D : Ghosts Disk) where
     disk = subst (λ (v : View Disk). ShowsDisk D v s.core.store) (sym library) shows.disk;
   }
 
-  -- a call that is done
+  -- if a call is done, the book shows the state after its commit
   done_shown : (before after_it : BookView Disk) (old new : MemberView) (command : Command) (receipt : Receipt) (s : Contents P) (client : ClientId) → Shown before s → IsDone before old command after_it new receipt
       → (IsTrue D.honest → HoldsRecords (D.seen after_it.library.disk) after_it.library.area after_it.library.bodies
       × ((area_byte : ℕ) → HasAreaByte (D.seen before.library.disk) area_byte before.library.area → IsCommitted (commit_of area_byte before.library command) (D.seen before.library.disk) (D.seen after_it.library.disk) × LeavesAlone (D.seen after_it.library.disk) (D.may_leave after_it.library.disk)))
@@ -473,7 +473,7 @@ module _ {Disk P : Type 0} (rules : Rules P) (D : Ghosts Disk) where
             (λ h. (subst (λ (v : View Disk). HoldsRecords (D.seen after_it.library.disk) v.area v.bodies) done.library (disk h).0, (disk h).1)));
       }
 
-  -- a call in which the device failed
+  -- if the device failed in a call, the book shows the state after the Fail
   failed_shown : (before : BookView Disk) (command : Command) (disk : Disk) (s : Contents P) (client : ClientId) (store : StoreState) → Shown before s → before.library.closed ≡ false
       → ShowsDisk D (failed_view D before.library disk) store → Shown (failed_in before command disk) (failed_state s client command store)
   failed_shown before command disk s client store shows idle here =

@@ -1,4 +1,5 @@
--- Threads may share a service, and a client may go to another thread. This is shown for each type by itself, from the bottom up.
+-- Threads may share a service, and a client may go to another thread. This is shown for each type separately, from the bottom
+-- up.
 use denote.RattleType.{RattleType}
 use denote.Param.Send.{IsSend, IsSync, sendable, recorded_send, recorded_sync, view_send, view_sync, struct_send, struct_sync, enum_send, enum_sync}
 use denote.Struct.Declared.{shape}

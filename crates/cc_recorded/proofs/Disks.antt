@@ -38,7 +38,8 @@ any_image (x ∷ bytes) (b ∷ image) long = ((λ settled. absurd (cc settled)),
 length-bytes : (cells : List Cell) → length (bytes_of cells) ≡ length cells
 length-bytes cells = length-map cells (λ (c : Cell). c.byte)
 
--- bytes that differ only in a range are an image of the disk with that range unsettled, whatever is written there
+-- if bytes differ from a disk's only in a range, they are an image of the disk with that range unsettled,
+-- whatever is written there
 pub within_is_image : (cells : List Cell) (offset : ℕ) (bytes image : List ℕ) → offset + length bytes ≤ length cells → DiffersWithin offset (length bytes) (bytes_of cells) image → IsImage (written cells offset bytes) image
 within_is_image cells offset bytes image fits differs =
     let n = length bytes in
@@ -56,7 +57,7 @@ within_is_image cells offset bytes image fits differs =
     (joined (map unsettled bytes) (drop (offset + n) cells) (take n (drop offset image)) (drop (offset + n) image) (any_image bytes (take n (drop offset image)) middle)
     (subst (λ (l : List ℕ). IsImage (drop (offset + n) cells) l) (sym behind) (bytes_are_image (drop (offset + n) cells)))))
 
--- bytes that differ only in a range are the old ones with some bytes written there
+-- if new bytes differ from the old ones only in a range, they are the old ones with some bytes written there
 pub within_is_written : (old new : List ℕ) (offset n : ℕ) → offset + n ≤ length old → DiffersWithin offset n old new → (bytes : List ℕ) × (length bytes ≡ n) × IsWritten old offset bytes new
 within_is_written old new offset n fits differs =
     let bytes = take n (drop offset new) in
@@ -73,7 +74,7 @@ within_is_written old new offset n fits differs =
 
 -- ---- the bytes
 
--- a write on equal bytes gives equal bytes
+-- the same write to equal bytes gives equal bytes
 pub written_same : (cells : List Cell) (old new : List ℕ) (offset : ℕ) (bytes : List ℕ) → bytes_of cells ≡ old → IsWritten old offset bytes new → bytes_of (written cells offset bytes) ≡ new
 written_same cells old new offset bytes same is =
     bytes_of-written cells offset bytes ∙ ap (λ (l : List ℕ). take offset l ++ (bytes ++ drop (offset + length bytes) l)) same ∙ sym is
@@ -88,7 +89,7 @@ committed_same c cells old new same done =
     bytes_of-synced (written (synced (written cells c.offset c.bytes)) c.deciding_offset (c.deciding_byte ∷ []))
     ∙ written_same (synced (written cells c.offset c.bytes)) done.0 new c.deciding_offset (c.deciding_byte ∷ []) first done.2
 
--- the first byte stays the same under a write after it
+-- a write after the first byte leaves that byte as it is
 first_byte : (old new bytes : List ℕ) (offset : ℕ) → 1 ≤ offset → 1 ≤ length old → IsWritten old offset bytes new → get_or new 0 0 ≡ get_or old 0 0
 first_byte [] new bytes offset some long is = absurd (omega (arith, long))
 first_byte (b ∷ old) new bytes zero some long is = absurd (omega (arith, some))

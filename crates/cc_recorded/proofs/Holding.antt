@@ -1,4 +1,4 @@
--- Clients and who they are, place by place.
+-- A list of clients, and the list of their members.
 use Rattle.std.proofs.Common.{◌≡◌, ◌≢◌, ◌⊎◌, inl, inr, ◌==◌, ℕ, ◌<◌, Bool, true, false, List, length, map, Option, Some, None, refl, sym, ap, ◌∙◌, arith}
 use Rattle.std.proofs.lemmas.Bool.{eq-eqb, eqb-true}
 use Rattle.std.proofs.lemmas.List.{length-map}
@@ -11,17 +11,17 @@ use Rattle.cc_history.specs.History.{MemberView}
 use Rattle.cc_history.proofs.Closings.{at_most}
 use Rattle.cc_recorded.specs.internal.Apart.{HaveOwnNumbers}
 
--- if all receipts match and there are not as many as entries, the history has more entries
+-- if all receipts match, and their number is not that of the entries, there are more entries
 pub more_entries : (history : List Entry) (clients : List MemberView) → AreOwn clients → AreApart clients → ReceiptsStand history clients → receipts_of clients ≢ length history
     → receipts_of clients < length history
 more_entries history clients own apart stand differ = omega (arith, at_most history clients own apart stand, differ)
 
 module _ {A : Type 0} (who : A → MemberView) where
-  -- the member at a place
+  -- the member at an index is that of the client there
   pub member_at : (clients : List A) (i : ℕ) (c : A) → slice_get clients i ≡ Some c → slice_get (map who clients) i ≡ Some (who c)
   member_at clients i c at = slice_get-map who clients i ∙ ap (option_map who) at
 
-  -- the client of a member's place
+  -- if there is a member at an index, there is a client there whose member it is
   pub client_at : (clients : List A) (i : ℕ) (h : MemberView) → slice_get (map who clients) i ≡ Some h → (c : A) × (slice_get clients i ≡ Some c) × (who c ≡ h)
   client_at clients i h at = by (slice_get clients i) refl
     where
@@ -29,7 +29,7 @@ module _ {A : Type 0} (who : A → MemberView) where
       by None e = absurd (let none : ◌≡◌ {A = Option MemberView} None (Some h) = sym (slice_get-map who clients i ∙ ap (option_map who) e) ∙ at in cc)
       by (Some c) e = (c, e, (let some : ◌≡◌ {A = Option MemberView} (Some (who c)) (Some h) = sym (member_at clients i c e) ∙ at in cc))
 
-  -- clients have different numbers exactly if they are apart
+  -- if clients have different numbers, their members are apart
   pub apart : (clients : List A) → HaveOwnNumbers who clients → AreApart (map who clients)
   apart clients own i j one other at at' same =
       let a = client_at clients i one at in
@@ -43,7 +43,7 @@ module _ {A : Type 0} (who : A → MemberView) where
   pub not_apart : (clients : List A) → (HaveOwnNumbers who clients → ⊥) → ¬ AreApart (map who clients)
   not_apart clients none apart = none (own_numbers clients apart)
 
-  -- these are not all clients: there are not as many as were made, or they are not apart
+  -- if these are not all clients, either they are not as many as were made, or they are not apart
   pub not_all : (clients : List A) (made : ℕ) → (length clients ≡ made → HaveOwnNumbers who clients → ⊥) → (length (map who clients) ≢ made) ⊎ (¬ AreApart (map who clients))
   not_all clients made none = by (length clients == made) refl
     where

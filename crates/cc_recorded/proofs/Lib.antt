@@ -1,11 +1,11 @@
--- How the book is shown. There are two layers. The library with its history says in one relation what each call answers and what it does to
--- the disk's bytes, whatever the exit (Committing). The book around it has one goal for each call: its tie to the core goes on, by a lemma
--- over those relations (Tying, Sinces). A commit is the core's steps, by cases of its answer (Cores, Rewriting); the only work is that the
--- bytes and images of the library's disk are those of the core's store (Disks).
+-- How the book is proved. There are two layers. For the library with its history, one relation says what each call answers and how it
+-- changes the disk's bytes, whatever the exit (Committing). The book around it has one goal for each call: its tie to the core goes on, by
+-- a lemma over those relations (Tying, Sinces). A commit is some steps of the core, by cases on its answer (Cores, Rewriting); what remains
+-- is that the bytes and images of the library's disk are those of the core's store (Disks).
 --
--- what each exit of a commit owes
+-- what has to be shown at each exit of a commit
 pub mod Committing
--- a store of the core still shows the library's disk after the steps of a commit
+-- the core's store still shows the library's disk after the steps of a commit
 pub mod Disks
 -- what a commit answers is what the core does
 pub mod Cores
@@ -15,7 +15,7 @@ pub mod Beginning
 pub mod Rewriting
 -- how the tie between a book and the core is kept
 pub mod Tying
--- whatever a crash has left since an earlier call has the calls up to then
+-- whatever a crash has left since an earlier call has all calls up to that call
 pub mod Sinces
 -- only a device call that fails adds a failed change
 pub mod Blaming
@@ -23,7 +23,7 @@ pub mod Blaming
 pub mod Surviving
 -- pieces give the unit of a command
 pub mod Putting
--- clients and who they are
+-- clients and their members
 pub mod Holding
 -- a commit after a compaction
 pub mod Mending

@@ -20,7 +20,8 @@ not_within n m not = omega (arith, not)
 module _ {Disk : Type 0} (D : Ghosts Disk) where
   -- ---- without a compaction
 
-  -- 34 comes only if a compaction makes no room
+  -- if a commit answers 34, and a compaction would not change that, the record would not fit even after a
+  -- compaction
   no_room : (before after_it : BookView Disk) (old new : MemberView) (command : Command) → (IsMended before.library command → ⊥) → CommitAnswers D.failures before old command after_it new (Err Full) → before.library.area < room_compacted before.library.units command
   no_room before after_it old new command not answers =
       not_within (room_compacted before.library.units command) before.library.area (λ fits. not ((answers.0.idle, answers.0.accepted), answers.1, fits))
@@ -58,7 +59,7 @@ module _ {Disk : Type 0} (D : Ghosts Disk) where
         commits = (answers, not_full between after_it old new command result (fits_behind before between command mended compacted) answers, disk);
       })
 
-  -- if the compaction is refused
+  -- if the compaction is refused, a commit that may compact first answers 34
   pub not_compacted : (before after_it : BookView Disk) (client : MemberView) (command : Command) (fault : BookFault) → IsMended before.library command → LastStands before.history client.receipts
       → CompactAnswers {T = Unit {0}} D.failures before after_it (Err fault) → (IsTrue D.honest → CompactsDisk {T = Unit {0}} D before.library after_it.library (Err fault))
       → CompactingAnswers D before client command after_it client (Err Full)

@@ -33,7 +33,7 @@ module _ {Disk P : Type 0} (rules : Rules P) (D : Ghosts Disk) where
   abbrev Shown : BookView Disk → Contents P → Type 0
   Shown book s = Shows D book s
 
-  -- the commit of the rewrite is that of the book's own map and disk
+  -- the commit of the rewrite is the one for the book's own map and disk
   same_rewrite : (book : BookView Disk) (s : Contents P) → Shown book s → rewrites_in s.core.store.area_byte book.library ≡ rewrite_of s.core.store s.core.library
   same_rewrite book s shows = λ i. rewrite_commit s.core.store.area_byte (sym shows.disk.area i) (compacted (sym shows.library i))
 

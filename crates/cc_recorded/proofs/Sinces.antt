@@ -1,4 +1,4 @@
--- How it is kept that whatever a crash has left since an earlier call has the calls up to then.
+-- After each call, it still holds that whatever a crash has left since an earlier call has all calls up to that earlier call.
 use Rattle.std.proofs.Common.{◌≡◌, ◌⊎◌, ℕ, ◌≤◌, inl, inr, false, List, [], ◌∷◌, ◌++◌, length, take, Result, Ok, Err, refl, sym, ap, ◌∙◌, subst, arith, append_assoc, length-append}
 use Rattle.std.proofs.lemmas.Bool.{cases_lt}
 use Rattle.std.proofs.lemmas.List.{take-append-le, take_all}
@@ -29,14 +29,14 @@ module _ {Disk : Type 0} (D : Ghosts Disk) where
 
   -- ---- what an image holds
 
-  -- an image with the map that a shorter history left
+  -- an image that recovers to the map after a prefix of the history holds the calls of that prefix
   of_prefix : (book : BookView Disk) (n : ℕ) (image : List ℕ) (prefix rest : List Entry) (base units : Units) → book.base ≡ base → book.history ≡ prefix ++ rest → units ≡ units_after base prefix → n ≤ length prefix → RecoversAlone image units → HoldsFrom book n image
   of_prefix book n image prefix rest base units same is map few recovers =
       let long = ap length is ∙ length-append prefix rest in
       let cut : take (length prefix) book.history ≡ prefix = ap (take (length prefix)) is ∙ take-append-le (length prefix) prefix rest (omega arith) ∙ take_all (length prefix) prefix (omega arith) in
       inl (length prefix, few, omega (arith, long), subst (λ (u : Units). RecoversAlone image u) (map ∙ (λ i. units_after (sym same i) (sym cut i))) recovers)
 
-  -- what held for a shorter history holds for a longer one
+  -- what an image holds of a shorter history, it holds of a longer one
   still_holds : (before after_it : BookView Disk) (more : List Entry) (n : ℕ) (image : List ℕ) → after_it.base ≡ before.base → after_it.history ≡ before.history ++ more
       → ((c : LibraryCommand) → before.failed ≡ c ∷ [] → (after_it.failed ≡ before.failed) × (after_it.library.units ≡ before.library.units)) → HoldsFrom before n image → HoldsFrom after_it n image
   still_holds before after_it more n image base history failed (inl (j, few, within, recovers)) =
@@ -47,7 +47,7 @@ module _ {Disk : Type 0} (D : Ghosts Disk) where
       let same = failed c is in
       inr (c, same.0 ∙ is, subst (λ (u : Units). RecoversAlone image (after u c)) (sym same.1) recovers)
 
-  -- an image of the disk now
+  -- an image of the disk as it is now holds all calls
   holds_now : (book : BookView Disk) (image : List ℕ) (failed : List LibraryCommand) → book.library.units ≡ units_after book.base book.history → book.failed ≡ failed → length failed ≤ 1 → RecoversTo book.library.units failed image → HoldsFrom book (length book.history) image
   holds_now book image [] map is one recovers = of_prefix book (length book.history) image book.history [] book.base book.library.units refl (sym (nothing_behind book.history)) map (omega arith) recovers
   holds_now book image (c ∷ []) map is one (inl recovers) = of_prefix book (length book.history) image book.history [] book.base book.library.units refl (sym (nothing_behind book.history)) map (omega arith) recovers
@@ -56,8 +56,8 @@ module _ {Disk : Type 0} (D : Ghosts Disk) where
 
   -- ---- what a call does to the book
 
-  -- The history has one more entry, or stays. The library stays; or the disk is written, and each image that it then leaves has all earlier
-  -- calls.
+  -- The history has one more entry, or is unchanged. The library is unchanged; or the disk is written, and each image that it then leaves
+  -- has all earlier calls.
   pub record Goes (before after_it : BookView Disk) : Type 0 where
     pub more : List Entry
     pub one : length more ≤ 1
@@ -93,7 +93,7 @@ module _ {Disk : Type 0} (D : Ghosts Disk) where
       longer before after_it [] (omega arith) (ap (λ (b : BookView Disk). b.base) is) (ap (λ (b : BookView Disk). b.history) is ∙ sym (nothing_behind before.history))
       (ap (λ (b : BookView Disk). b.library) is) (ap (λ (b : BookView Disk). b.failed) is)
 
-  -- ---- what holds for what was left since an earlier moment holds after the call
+  -- ---- what is known about images left since an earlier moment is still known after the call
 
   goes_on : (before after_it : BookView Disk) → Goes before after_it → (from n : ℕ) (left : List ℕ → Type 0) → from ≤ D.moment before.library.disk → n ≤ length before.history
       → ((image : List ℕ) → D.left_since before.library.disk from image → left image ⊎ HoldsFrom before n image)
@@ -139,7 +139,7 @@ module _ {Disk : Type 0} (D : Ghosts Disk) where
       let on = goes_on before after_it goes from 0 left was.past (omega arith) was.holds in
       record { past = on.0; holds = on.1 }
 
-  -- after the opening
+  -- after the opening, whatever a crash has left since `from` was left before the opening
   pub opening_now : (book : BookView Disk) (from : ℕ) (left : List ℕ → Type 0) → IsPast D from left book.library.disk → IsSinceOpening D from left book
   opening_now book from left named = record { past = named.past; holds = λ image was. inl (named.all image was) }
 
@@ -205,7 +205,7 @@ module _ {Disk : Type 0} (D : Ghosts Disk) where
 
   -- ---- the newest
 
-  -- the book as it is now
+  -- whatever a crash leaves of the book as it is now has all its calls
   now_since : (book : BookView Disk) → Replays (chronicle_of book) → length book.failed ≤ 1 → ((image : List ℕ) → D.left_since book.library.disk (D.moment book.library.disk) image → D.may_leave book.library.disk image)
       → ((image : List ℕ) → D.may_leave book.library.disk image → RecoversTo book.library.units book.failed image) → Since book book
   now_since book replays one only_now images = record {
@@ -280,7 +280,7 @@ module _ {Disk : Type 0} (D : Ghosts Disk) where
         let all : length book.history ≡ entries = omega (arith, ap length none, few) in
         (book.library.disk, subst (λ (n : ℕ). StoodWith D book n book.library.disk) all stood_now)
 
--- reading changes nothing about what a crash has left since an earlier moment
+-- reading a disk does not change what a crash has left since an earlier moment
 pub past_on : {Disk : Type 0} (D : Ghosts Disk) (from : ℕ) (left : List ℕ → Type 0) (old new : Disk)
     → IsPast D from left old → OnlyReads D.seen D.may_leave D.moment D.left_since old new → IsPast D from left new
 past_on D from left old new named reads = record {

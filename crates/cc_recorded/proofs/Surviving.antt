@@ -75,12 +75,13 @@ held_agrees law stays book replays agreed failed entries image library (inr (c, 
     subst (λ (u : Units). EachUnit (IsRightOr is_right book.base) u) (sym (alone.alone library recovers))
     (stays book.base book.library.units c map (right_change book.base c one))
 
--- each unit of the map is the base's, or was compiled
+-- each unit of the map is in the base, or was compiled
 pub map_agrees : {Disk : Type 0} → ((base : Units) (history : List Entry) → HaveAgreed history → EachAgrees base (units_after base history)) → (book : BookView Disk) → Replays (chronicle_of book) → HaveAgreed book.history
     → EachAgrees book.base book.library.units
 map_agrees law book replays agreed = subst (λ (u : Units). EachAgrees book.base u) (sym replays.units) (law book.base book.history agreed)
 
--- an image that has a prefix of the calls, with its units
+-- if an image was left before the opening or has a prefix of the calls, its units are right in the second
+-- case
 pub or_prefix : {Disk : Type 0} (book : BookView Disk) (left : List ℕ → Type 0) (image : List ℕ)
     → ((library : Units) → HoldsFrom book 0 image → Recovers image library → EachUnit (IsRightOr is_right book.base) library) → left image ⊎ HoldsFrom book 0 image → left image ⊎ HoldsPrefix book image
 or_prefix book left image right (inl early) = inl early

@@ -1,5 +1,5 @@
 -- How the tie between a book and the core is kept: a commit hands in its job with the pieces that gave its unit, and then takes the core's
--- steps; a compaction takes those of a rewrite. The core's own law says that a run can go on in this way.
+-- steps; a compaction takes the steps of a rewrite. The core's own law says that a run can go on this way.
 use Rattle.std.proofs.Common.{◌≡◌, ℕ, ◌+◌, ◌^◌, ◌<◌, ◌≤◌, length, inl, inr, Bool, true, false, List, [], ◌∷◌, ◌++◌, map, Option, Some, None, Result, Ok, Err, refl, sym, ap, ◌∙◌, subst, arith}
 use Rattle.std.specs.FinMap.{FinMap, get, get-empty}
 use Rattle.std.specs.Ordering.{nat_cmp}
@@ -55,7 +55,7 @@ pub record TurnLaw {P : Type 0} (rules : Rules P) (keeps : P → Type 0) : Type 
       → HasBuilt rules keeps command → CanBeReady rules keeps old client worker command
 
 module _ {P : Type 0} where
-  -- which events may hand in a job, give a worker a piece, hand one in, or begin a commit
+  -- the kind of an event: one number each for those that hand in a job, give a worker a piece, hand in a piece, or begin a commit
   abbrev kind : Event P → ℕ
   kind (event.Submit client call request) = 0
   kind (event.Take worker client part) = 1
@@ -88,13 +88,13 @@ module _ {P : Type 0} where
   no_begin rules old e plain client job command is held comes = let k : kind e ≡ 3 = ap kind is in absurd (omega (arith, plain, k))
 
 module _ {P : Type 0} (rules : Rules P) (keeps : P → Type 0) (law : TurnLaw rules keeps) where
-  -- The command of a state's job can be spelled if its record fits, and the area of a state in which no device step failed is no larger
-  -- than the greatest area.
+  -- The command of the job can be spelled if its record fits; and if no device step has failed, the state's area is at most the greatest
+  -- area.
   pub record CanSpell (old : Contents P) (c : made.LibraryCommand) : Type 0 where
     pub command : length (body_of c) < 2 ^ 32 → IsCommand c
     pub area : closed old.core.phase ≡ None → old.core.store.area ≤ 2 ^ 30
 
-  -- the Begin of a job whose command has a spelling
+  -- if the command of a job can be spelled, `BeginsSpelled` holds of the job's Begin
   spelled : (old : Contents P) (client : ClientId) (c : made.LibraryCommand) → Has rules old client c → CanSpell old c → BeginsSpelled rules old (event.Begin client)
   spelled old client c has can other job command is held comes open' fits =
       let same : client ≡ other = cc in
@@ -130,7 +130,7 @@ module _ {P : Type 0} (rules : Rules P) (keeps : P → Type 0) (law : TurnLaw ru
   all_on old (one ∷ others) new plain is =
       one_on old one.0 one.1 is.0 (events_of others) new (omega (arith, plain.0)) (no_begin rules old one.0 plain.0) is.1 (all_on is.0 others new plain.1 is.2)
 
-  -- steps that begin a commit, and go on by plain ones
+  -- if the first step begins a commit, and the others are plain, these steps lead on
   begun_steps : (old : Contents P) (client : ClientId) (reply : Option Reply) (others : List (Event P × Option Reply)) (new : Contents P) (c : made.LibraryCommand) → Has rules old client c → CanSpell old c → AllPlain others
       → Steps rules old ((event.Begin client, reply) ∷ others) new → LeadsOn old (event.Begin client ∷ events_of others) new
   begun_steps old client reply others new c has can plain is =
@@ -147,7 +147,7 @@ not_open : (failed : List made.LibraryCommand) (phase : Phase) → IsPhase true 
 not_open [] phase is open' = let h : ◌≡◌ {A = Option Refusal} (Some refusal.Closed) None = ap closed (sym is) ∙ open' in cc
 not_open (c ∷ failed) phase is open' = let h : ◌≡◌ {A = Option Refusal} (Some refusal.Closed) None = ap closed (sym is.2) ∙ open' in cc
 
--- what becomes of the disk's bytes does not depend on whether the kind of disk calls itself honest
+-- how the disk's bytes change does not depend on whether the kind of disk calls itself honest
 changes_too : {Disk T : Type 0} (D : Ghosts Disk) (command : made.LibraryCommand) (old new : View Disk) (result : Result T BookFault) → ChangesDisk D command old new result → ChangesDisk (honest_kind D) command old new result
 changes_too D command old new (Ok done) is = is
 changes_too D command old new (Err DiskFault) is = is
@@ -240,7 +240,7 @@ module _ {Disk P : Type 0} (rules : Rules P) (keeps : P → Type 0) (law : TurnL
   abbrev ShownBy : BookView Disk → Contents P → Type 0
   ShownBy book s = Shows (honest_kind D) book s
 
-  -- the run goes on to a state that the book shows afterwards
+  -- if the run goes on to a state that the book shows afterwards, the book is still tied
   goes_on : (before after_it : BookView Disk) (tied : TiedSo before) → after_it.base ≡ before.base → (events : List (Event P)) (new : Contents P) → Run rules keeps tied.now events new → ShownBy after_it new
       → (clients : ℕ) → ((k : ℕ) → clients ≤ k → get new.jobs k ≡ None) → get new.workers 0 ≡ None → TiedSo after_it
   goes_on before after_it tied base events new run shows clients fresh idle = record {
@@ -274,7 +274,7 @@ module _ {Disk P : Type 0} (rules : Rules P) (keeps : P → Type 0) (law : TurnL
       by false e is = let most = (shows.disk.holds refl e).0.is_area.most in omega (arith, most, shows.disk.area)
       by true e is = absurd (not_open book.failed s.core.phase is open')
 
-  -- a commit that begins
+  -- if a commit begins and goes on by plain steps to a state that the book shows, the tie goes on
   begun_on : (before after_it : BookView Disk) (tied : TiedSo before) → after_it.base ≡ before.base → (c : made.LibraryCommand) → (length (body_of c) < 2 ^ 32 → IsCommand c) → (ready_for : IsReadyFor before tied c)
       → (reply : Option Reply) (others : List (Event P × Option Reply)) → AllPlain rules keeps law others → (new : Contents P)
       → Steps rules ready_for.new ((event.Begin (next before tied), reply) ∷ others) new → ShownBy after_it new → TiedSo after_it

@@ -1,6 +1,6 @@
--- Which answer a commit gives, when, and what it leaves. In this order: 36 exactly if the device has failed before, 39 exactly if the
--- client's last receipt does not match the history, 31 and 32 exactly if the map refuses, 34 exactly if the record does not fit, 35 exactly
--- if the device failed in the call.
+-- Which answer a commit gives, and what it leaves. The answers, in this order: 36 exactly if the device has failed before, 39 exactly if
+-- the client's last receipt does not match the history, 31 and 32 exactly if the map refuses, 34 exactly if the record does not fit, 35
+-- exactly if the device failed in the call.
 use Rattle.std.specs.Prelude.{◌≡◌, ◌≢◌, ◌⊎◌, length, slice_get, Some, None, ℕ, ◌+◌, ◌<◌, ◌≤◌, true, false, IsOk, List, [], ◌∷◌, ◌++◌, Result, Ok, Err}
 use Rattle.cc_library.specs.Apply.{apply, after}
 use Rattle.cc_library.specs.Body.{body_of}
@@ -33,7 +33,7 @@ IsLook (Change command) = ⊥
 IsLook (Fetch name) = Unit {0}
 IsLook Names = Unit {0}
 
--- why a service is not ended: lack of memory; or the first receipt that does not match the history; or that these are not all clients
+-- why a service is not ended: memory ran out; or a receipt does not match the history (the first such one); or these are not all clients
 abbrev pub IsNotClosed : (history : List Entry) (made : ℕ) → List MemberView → BookFault → Type 0
 IsNotClosed history made clients fault =
     (fault ≡ OutOfMemory)
@@ -79,7 +79,7 @@ module _ {D : Type 0} where
   abbrev pub failed_in : BookView D → Command → D → BookView D
   failed_in before command disk = record before { library = record before.library { disk = disk; closed = true }; failed = command ∷ [] }
 
-  -- the answer to a commit, and what it leaves. The failures are those that the disk has counted
+  -- the answer to a commit, and what the commit leaves; `failures` is the number of failed calls that the disk has counted
   abbrev pub CommitAnswers : (failures : D → ℕ) (before : BookView D) (old : MemberView) → Command → (after : BookView D) (new : MemberView) → Result Receipt BookFault → Type 0
   CommitAnswers failures before old command after new (Ok receipt) =
       IsDone before old command after new receipt × (failures after.library.disk ≡ failures before.library.disk)
@@ -95,8 +95,8 @@ module _ {D : Type 0} where
       × (failures after.library.disk ≡ failures before.library.disk + 1) × (after ≡ failed_in before command after.library.disk) × (new ≡ old)
   CommitAnswers failures before old command after new (Err OutOfMemory) = (before.library.closed ≡ false) × (after ≡ before) × (new ≡ old)
 
-  -- the answer to a look-up, and what it leaves: the call is in the history with the reply that a single thread gets there, and nothing
-  -- else changes; 39 exactly if the client's last receipt does not match. No other fault comes
+  -- the answer to a look-up, and what it leaves: the call is in the history with the reply that a single thread would get there, and
+  -- nothing else changes; 39 exactly if the client's last receipt does not match the history; the only other fault is 40
   abbrev pub LookAnswers : (before : BookView D) (old : MemberView) → Asked → (after : BookView D) (new : MemberView) → Result Receipt BookFault → Type 0
   LookAnswers before old asked after new (Ok receipt) =
       IsRecorded (chronicle_of before) old asked (reply_of before.library.units asked) (chronicle_of after) new receipt
@@ -110,8 +110,8 @@ module _ {D : Type 0} where
   LookAnswers before old asked after new (Err Closed) = ⊥
   LookAnswers before old asked after new (Err DiskFault) = ⊥
 
-  -- the answer to a compaction, and what it leaves: the history and the map stay as they are. 36 exactly if the device has failed
-  -- before, then 34 exactly if the new records do not fit, then 35 exactly if the device failed in the call
+  -- the answer to a compaction, and what it leaves: the history and the map are unchanged; 36 exactly if the device has failed before, then
+  -- 34 exactly if the new records do not fit, then 35 exactly if the device failed in the call
   abbrev pub CompactAnswers : {T : Type 0} → (failures : D → ℕ) (before after : BookView D) → Result T BookFault → Type 0
   CompactAnswers failures before after (Ok done) =
       (before.library.closed ≡ false) × (room_of (compacted before.library.units) ≤ before.library.area) × (failures after.library.disk ≡ failures before.library.disk)

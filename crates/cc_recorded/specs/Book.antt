@@ -24,21 +24,21 @@ book_code {D} disk units entry command =
     (λ b. (b.base, (b.library, (b.history, b.failed)))) (λ p. record { base = p.0; library = p.1.0; history = p.1.1.0; failed = p.1.1.1 }) (λ _. refl)
 
 module _ {D : Type 0} where
-  -- the history, from the base to the map
+  -- the history of a book, which leads from the base to the map
   abbrev pub chronicle_of : BookView D → Chronicle
   chronicle_of book = record { base = book.base; units = book.library.units; history = book.history }
 
--- the unit of each of these changes, if it has one, was compiled
+-- the unit of each of these changes, if the change has one, was compiled
 abbrev pub AllAgreed : List LibraryCommand → Type 0
 AllAgreed changes = (k : ℕ) (c : LibraryCommand) → slice_get changes k ≡ Some c → HasAgreed c
 
--- what an image of the disk recovers to: the map; after a change that failed, the map with or without that change
+-- an image of the disk recovers to the map; after a change that failed, to the map with or without that change
 abbrev pub RecoversTo : Units → (failed : List LibraryCommand) → List ℕ → Type 0
 RecoversTo units [] image = RecoversAlone image units
 RecoversTo units (failed ∷ others) image = RecoversOneOf units (after units failed) image
 
--- What the type of a book keeps. While the library is not closed, every image of an honest disk recovers to its map; once the
--- device has failed in a change, to the map with or without that change.
+-- What the type of a book keeps. While the library is not closed, every image of an honest disk recovers to the library's map; once the
+-- device has failed in a change, to that map with or without the change.
 pub record IsRecordedLibrary {Disk : Type 0} (D : Ghosts Disk) (named : Units) (total : ℕ) (book : BookView Disk) : Type 0 where
   pub replays : Replays (chronicle_of book)
   pub agreed : HaveAgreed book.history

@@ -17,7 +17,7 @@ module _ {Disk : Type 0} (D : Ghosts Disk) where
   abbrev pub AllRecover : BookView Disk → Type 0
   AllRecover book = IsTrue D.honest → (image : List ℕ) → D.may_leave book.library.disk image → RecoversTo book.library.units book.failed image
 
-  -- a crash at any moment between the one book and the other leaves the earlier map or the map after the command
+  -- a crash at any moment from `before` to `after` leaves the earlier map or the map after the command
   abbrev pub ChangesAtOnce : Command → (before after : BookView Disk) → Type 0
   ChangesAtOnce command before after = IsTrue D.honest → before.library.closed ≡ false
       → LeavesOnly D.moment D.left_since before.library.disk after.library.disk (RecoversOneOf before.library.units (library.after before.library.units command))
@@ -25,18 +25,18 @@ module _ {Disk : Type 0} (D : Ghosts Disk) where
   -- a change
   pub record IsBookChanged (before : BookView Disk) (old : MemberView) (command : Command) (after : BookView Disk) (new : MemberView) (result : Result Receipt BookFault) : Type 0 where
     pub answers : CommitAnswers D.failures before old command after new result
-    -- what becomes of the disk's bytes
+    -- how the disk's bytes change
     pub disk : IsTrue D.honest → ChangesDisk D command before.library after.library result
     pub moments : ChangesAtOnce command before after
-    -- after Ok every image recovers to the map after the command, and to no other
+    -- after Ok every image recovers to the map after the command, and to no other map
     pub kept : AllRecover after
 
   -- a compaction
   pub record IsBookCompacted (before after : BookView Disk) (result : Result (Unit {0}) BookFault) : Type 0 where
     pub answers : CompactAnswers D.failures before after result
-    -- what becomes of the disk's bytes
+    -- how the disk's bytes change
     pub disk : IsTrue D.honest → CompactsDisk D before.library after.library result
-    -- a crash at any moment leaves the map, and no other
+    -- a crash at any moment leaves the map, and no other map
     pub moments : IsTrue D.honest → before.library.closed ≡ false
         → LeavesOnly D.moment D.left_since before.library.disk after.library.disk (λ image. RecoversAlone image before.library.units)
     pub kept : AllRecover after

@@ -1,5 +1,5 @@
--- What a commit that compacts if this makes room answers, and what it leaves: 34 is its answer only if the record does not fit
--- after the compacted records either, or if the compaction was refused.
+-- What a commit that may compact first answers, and what it leaves: the answer is 34 only if the record would not fit even after a
+-- compaction, or if the compaction was refused.
 use Rattle.std.specs.Prelude.{◌≡◌, ◌≢◌, ◌⊎◌, ◌<◌, IsTrue, Result, Ok, Err}
 use Rattle.cc_disk.specs.declared.disk.Disk.{Ghosts}
 use Rattle.cc_library.specs.Answers.{IsMended}
@@ -14,15 +14,16 @@ use Rattle.cc_recorded.specs.declared.fault.BookFault.{BookFault}
 use Rattle.cc_recorded.specs.declared.fault.BookFault.TheVariants.{Full}
 
 module _ {Disk : Type 0} (D : Ghosts Disk) where
-  -- What comes after a compaction: the commit, on the book that the compaction leaves, and its answer is not 34. If the compaction was
-  -- refused, nothing comes after it, and 34 is the answer.
+  -- What follows a compaction: the commit, on the book that the compaction leaves, with an answer other than 34. If the compaction was
+  -- refused, nothing follows, and the answer is 34.
   abbrev pub CommitsBehind : Command → (between : BookView Disk) (old : MemberView) (after : BookView Disk) (new : MemberView) → Result (Unit {0}) BookFault → Result Receipt BookFault → Type 0
   CommitsBehind command between old after new (Ok done) result =
       CommitAnswers D.failures between old command after new result × (result ≢ Err Full)
       × (IsTrue D.honest → ChangesDisk D command between.library after.library result)
   CommitsBehind command between old after new (Err fault) result = (result ≡ Err Full) × (after ≡ between) × (new ≡ old)
 
-  -- 34 would refuse the change now, but not after a compaction, so the library is compacted, which makes no entry and leaves the map.
+  -- The change would be refused with 34 now, but not after a compaction, so the library is compacted. This makes no entry and keeps
+  -- the map.
   pub record IsCompactedFor (before : BookView Disk) (old : MemberView) (command : Command) (after : BookView Disk) (new : MemberView) (result : Result Receipt BookFault) : Type 0 where
     pub mended : IsMended before.library command
     pub stands : LastStands before.history old.receipts
@@ -32,7 +33,7 @@ module _ {Disk : Type 0} (D : Ghosts Disk) where
     pub rewritten : IsTrue D.honest → CompactsDisk D before.library between.library compacted
     pub commits : CommitsBehind command between old after new compacted result
 
-  -- the answer: that of a commit, and 34 only if a compaction would make no room; or a compaction comes first
+  -- the answer is that of a commit, and 34 only if a compaction would not make enough room; or the library is compacted first
   abbrev pub CompactingAnswers : (before : BookView Disk) (old : MemberView) → Command → (after : BookView Disk) (new : MemberView) → Result Receipt BookFault → Type 0
   CompactingAnswers before old command after new result =
       (CommitAnswers D.failures before old command after new result

@@ -1,5 +1,5 @@
--- What a change, and what a compaction, does to the bytes of an honest disk. After 35 the definition says once, for all images together, in
--- which of the two writes the call failed.
+-- How a change, or a compaction, changes the bytes of an honest disk. After 35 the call failed in one of its two writes: the same one
+-- for all images.
 use Rattle.std.specs.Prelude.{ℕ, Result, Ok, Err}
 use Rattle.cc_disk.specs.declared.disk.Disk.{Ghosts}
 use Rattle.cc_disk.specs.Images.{LeavesAlone}
@@ -12,7 +12,7 @@ use Rattle.cc_recorded.specs.declared.fault.BookFault.{BookFault}
 use Rattle.cc_recorded.specs.declared.fault.BookFault.TheVariants.{Exists, Absent, Full, DiskFault, Closed, Estranged, OutOfMemory}
 
 -- after Ok the journal's commit of the change's record is made, everything is settled, and the records are the library's; after 35 that
--- commit was left in its first write, or in its last one
+-- commit stopped in its first write, or in its last one
 abbrev pub ChangesDisk : {Disk T : Type 0} (D : Ghosts Disk) → LibraryCommand → (old new : View Disk) → Result T BookFault → Type 0
 ChangesDisk D change old new (Ok done) =
     HoldsRecords (D.seen new.disk) new.area new.bodies
@@ -26,7 +26,7 @@ ChangesDisk D change old new (Err Closed) = Unit {0}
 ChangesDisk D change old new (Err (Estranged number found)) = Unit {0}
 ChangesDisk D change old new (Err OutOfMemory) = Unit {0}
 
--- what a compaction does to the disk's bytes, depending on its answer
+-- how a compaction changes the disk's bytes, depending on its answer
 abbrev pub CompactsDisk : {Disk T : Type 0} (D : Ghosts Disk) → (old new : View Disk) → Result T BookFault → Type 0
 CompactsDisk D old new (Ok done) =
     HoldsRecords (D.seen new.disk) new.area new.bodies

@@ -7,15 +7,15 @@ pub mod Member
 pub mod Book
 -- what a library is like after its opening
 pub mod Opened
--- which answer a call gives, when, and what it leaves
+-- which answer a call gives in which case, and what it leaves
 pub mod Answers
--- what a call does to the bytes of the disk
+-- how a call changes the bytes of the disk
 pub mod Disk
 -- the whole promise of a change of a book, and of a compaction
 pub mod Changed
--- what a commit that compacts if this makes room answers
+-- what a commit that may compact first answers
 pub mod Compacting
--- how a book shows a state of the protocol core, and what a call is on it
+-- how a book shows a state of the protocol core, and which steps of the core a call is
 pub mod Core
 -- what a crash at any moment since an earlier call has left
 pub mod Since

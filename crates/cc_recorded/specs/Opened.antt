@@ -6,7 +6,7 @@ use Rattle.cc_journal.specs.Format.{HoldsRecords}
 use Rattle.cc_library.specs.Recovered.{RecoversAlone, StandFor, View}
 
 -- The library is open, and its records represent its map. An honest disk has these records and nothing unsettled, and whatever a
--- crash leaves of it recovers to the map, and to no other.
+-- crash leaves of it recovers to the map, and to no other map.
 pub record IsOpened {Disk : Type 0} (D : Ghosts Disk) (library : View Disk) : Type 0 where
   pub usable : library.closed ≡ false
   pub stand : StandFor library.bodies library.units

@@ -3,5 +3,5 @@
 pub mod Decide
 -- what is checked about clients
 pub mod Apart
--- the refusals before a change looks for room
+-- the refusals of a change that come before its room is checked
 pub mod Early

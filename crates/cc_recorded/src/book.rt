@@ -37,15 +37,15 @@ use std::sync::ledger::{self, Share};
 /// The value of a service's lock: the library with the history of its calls.
 ///
 /// Its type keeps the tie to the crash theorem: on an honest disk some run of the protocol core, starting from an opened disk, leads to a
-/// state that this book shows. It also keeps what a crash at any moment since the opening, or since any call, has left. Contracts see the
-/// book, and the book as it was at the opening and after each call.
+/// state that this book shows. The type also keeps what a crash at any moment since the opening, or since any call, has left. Contracts see
+/// the book, and the book as it was at the opening and after each call.
 pub struct Book<N: Based, D: Disk> {
     pub(crate) recorded: RecordedLibrary<N, D>,
     // The book at the opening and after each call, for contracts only.
     pub(crate) since: History<RecordedLibrary<N, D>>,
 }
 
-// Written by hand, so that crates above call it and need not prove again how each part is dropped.
+// Written by hand, so that the crates above call it instead of proving again how each part is dropped.
 impl<N: Based, D: Disk + Drop> Drop for Book<N, D> {
     fn drop(self) {
         let Book { recorded, since } = self;
@@ -82,10 +82,10 @@ impl<N: Based, D: Disk> Book<N, D> {
         disk: D,
         calls: ledger::Book<N>,
     ) -> Result<Book<N, D>, (LibraryFault, D)>
-        // The base that the service's parameter names, if an honest disk's bytes recover to one.
+        // If the bytes of an honest disk recover to a map, it is the base that the service's parameter names.
         requires named { IsTrue D.honest → (units : Units) → Recovers (D.seen disk) units → units ≡ N.base }
-        // The moment that the parameter names, with what a crash has left since then; and its number of failed device calls, at
-        // most as many as have failed.
+        // The parameter names a moment up to now and what a crash has left since then; and a number of failed device calls that is at most
+        // the actual one.
         requires past { IsTrue D.honest → IsPast D.Disk N.from N.left disk }
         requires failures { N.failures ≤ D.failures disk }
         requires counted { calls.total ≡ 0 }
@@ -102,7 +102,7 @@ impl<N: Based, D: Disk> Book<N, D> {
         ensures sound { IfOk result (λ b. D.failures b.book.library.disk ≡ D.failures disk) }
         ensures refused { IfErr result (λ e. OpenFaults D.honest (D.seen disk) (D.failures disk) (D.failures e.1) e.0) }
 
-        // The disk has the same size and the same bytes, and no crash leaves anything new.
+        // The disk keeps its size and its bytes, and no crash leaves anything new.
         ensures size { MatchResult result (λ b. D.size b.book.library.disk ≡ D.size disk) (λ e. D.size e.1 ≡ D.size disk) }
         ensures reads { MatchResult result
             (λ b. IsTrue D.honest → OnlyReads D.seen D.may_leave D.moment D.left_since disk b.book.library.disk)
@@ -128,7 +128,7 @@ impl<N: Based, D: Disk> Book<N, D> {
         calls: ledger::Book<N>,
     ) -> Result<Book<N, D>, Library<D>>
         requires opened { IsOpened D.Disk library }
-        // The base, the moment and the number of failures that the service's parameter names.
+        // The service's parameter names the base, the moment and the number of failures.
         requires named { IsTrue D.honest → library.units ≡ N.base }
         requires past { IsTrue D.honest → IsPast D.Disk N.from N.left library.disk }
         requires failures { N.failures ≤ D.failures library.disk }
@@ -146,7 +146,7 @@ impl<N: Based, D: Disk> Book<N, D> {
         }
     }
 
-    // The book over a library that was opened, whose map is the base.
+    // Begins the book over a library that was opened; the library's map is the base.
     fn begin(
         alloc: Global,
         base: UnitMap,
@@ -170,11 +170,11 @@ impl<N: Based, D: Disk> Book<N, D> {
 
     /// Makes a change, and puts the call into the history with its answer. After Ok the change is kept: every crash leaves it.
     ///
-    /// Refusals, in this order: 36 if the device has failed before; 39 if the client's last receipt does not match the history;
-    /// 31 if the name to be added has a unit, 32 if the one to be replaced or withdrawn has none, both of them in the history
-    /// with a receipt; 34 if the record does not fit; 35 if the device failed. 40 if memory ran out, before the first device
-    /// call. After 34, 36, 39 and 40 everything is as before; after 35 the history and the map are, and the disk has the map with
-    /// or without the change.
+    /// Refusals, in this order: 36 if the device has failed before; 39 if the client's last receipt does not match the history; 31 if the
+    /// name to be added has a unit, 32 if the name to be replaced or withdrawn has none (after 31 and 32 the call is in the history, with a
+    /// receipt); 34 if the record does not fit; 35 if the device failed. 40 if memory ran out, before the first device call. After 34, 36,
+    /// 39 and 40 everything is as before; after 35 the history and the map are as before, and the disk has the map with or without the
+    /// change.
     pub fn commit(
         &mut self,
         alloc: Global,
@@ -194,12 +194,12 @@ impl<N: Based, D: Disk> Book<N, D> {
         result
     }
 
-    /// Makes a change as `commit` does. But if 34 would refuse it now and would not after a `compact`, it compacts first. That
-    /// makes no entry in the history, and the map stays the same.
+    /// Makes a change as `commit` does. But if `commit` would refuse the change with 34 now, and would not after a `compact`, the library
+    /// is compacted first. The compaction makes no entry in the history, and the map stays the same.
     ///
-    /// Refuses as `commit` does. 34 comes, without a device call, if the record does not fit after compacted records either. It
-    /// also comes if `compact` was refused: the change was then not begun, and every crash leaves the map as it was; but if the
-    /// device failed, the library is closed, and answers 36 from then on.
+    /// Refuses as `commit` does. It answers 34, without a device call, if the record would not fit even after a `compact`. It also answers
+    /// 34 if `compact` was refused: then the change was not begun, and every crash leaves the map as it was; but if the device failed, the
+    /// library is closed, and answers 36 from then on.
     pub fn commit_compacting(
         &mut self,
         alloc: Global,
@@ -211,7 +211,7 @@ impl<N: Based, D: Disk> Book<N, D> {
         ensures since { (self.new ≡ self.old) ⊎ ((between : List (BookView D)) × (self.new.since ≡ self.old.since ++ (between ++ self.new.book ∷ []))) }
 
         ensures moments { ChangesAtOnce D.Disk command self.old.book self.new.book }
-        // After Ok every crash leaves the map with the change, and no other.
+        // After Ok every crash leaves the map with the change, and no other map.
         ensures kept { AllRecover D.Disk self.new.book }
     {
         self.kept();
@@ -226,7 +226,7 @@ impl<N: Based, D: Disk> Book<N, D> {
         }
     }
 
-    // Whether 34 would refuse a change of this client now, but not after a `compact`.
+    // Whether a change of this client would be refused with 34 now, but not after a `compact`.
     fn is_mended_by_compact(&self, client: &Member<N>, command: &Command) -> Result<bool, BookFault>
         ensures mended { IfOk result (λ mended. IsTrue mended → IsMended self.now.book.library command.now) }
         ensures stands { IfOk result (λ mended. IsTrue mended → LastStands self.now.book.history client.now.receipts) }
@@ -237,7 +237,7 @@ impl<N: Based, D: Disk> Book<N, D> {
         self.recorded.is_mended_by_compact(client, command)
     }
 
-    /// Gives proofs what the type of a book keeps about what a crash leaves now; at run time it does nothing.
+    /// Shows the prover what the type of a book keeps about what a crash leaves now; at run time this does nothing.
     pub fn kept(&self)
         ensures images { AllRecover D.Disk self.now.book }
         ensures idle { self.now.book.library.closed ≡ false → self.now.book.failed ≡ [] }
@@ -247,8 +247,8 @@ impl<N: Based, D: Disk> Book<N, D> {
 
     /// Looks up a name or all names, and puts the call into the history with its answer, which is in the receipt's entry.
     ///
-    /// 39 if the client's last receipt does not match the history; 40 if memory ran out. After both everything is as before. It does not
-    /// matter whether the device has failed.
+    /// 39 if the client's last receipt does not match the history; 40 if memory ran out. After either, everything is as before. A look-up
+    /// works even if the device has failed.
     pub fn look(
         &mut self,
         alloc: Global,
@@ -266,7 +266,8 @@ impl<N: Based, D: Disk> Book<N, D> {
         result
     }
 
-    /// Writes the library's records again, one Add per name. It makes no entry in the history, and the map stays the same at every moment.
+    /// Writes the library's records again, one Add per name. This makes no entry in the history, and the map stays the same at every
+    /// moment.
     ///
     /// Refusals, in this order: 36 if the device has failed before, 34 if the new records do not fit, 35 if the device failed. 40 if memory
     /// ran out, before the first device call. After 34, 36 and 40 everything is as before.
@@ -282,8 +283,8 @@ impl<N: Based, D: Disk> Book<N, D> {
         result
     }
 
-    /// How much of its area the library takes. It makes no entry in the history, takes no memory and makes no device call; it looks at
-    /// each unit.
+    /// How much of its area the library takes. The call makes no entry in the history, needs no memory and makes no device call; it looks
+    /// at each unit.
     ///
     /// 36 if the device has failed before: then the disk may have other records.
     pub fn space(&self) -> Result<SpaceUse, BookFault>
@@ -295,14 +296,14 @@ impl<N: Based, D: Disk> Book<N, D> {
         self.recorded.space()
     }
 
-    /// Whether the device has failed before: then every change and `compact` answer 36. It takes no memory.
+    /// Whether the device has failed before: then every change and every `compact` answers 36. The call needs no memory.
     pub fn is_closed(&self) -> bool
         ensures { result ≡ self.now.book.library.closed }
     {
         self.recorded.library.is_closed()
     }
 
-    /// The disk, which no call reaches any more.
+    /// Gives up the book and returns its disk.
     pub fn into_disk(self) -> D
         ensures { result ≡ self.book.library.disk }
     {
@@ -311,10 +312,10 @@ impl<N: Based, D: Disk> Book<N, D> {
         recorded.into_disk()
     }
 
-    /// Whether the book can be ended with these clients, as many as were made.
+    /// Whether the book can be ended with these clients, if `made` clients were made.
     ///
-    /// 39 for the first receipt that does not match the history; 39 with the history's length and no entry if these are not all the clients
-    /// that were made; 40 if memory ran out.
+    /// 39 for the first receipt that does not match the history; 39, with the history's length and no entry, if these are not all the
+    /// clients that were made; 40 if memory ran out.
     pub fn ready<C: HasReceipts>(&self, made: u64, clients: &[C]) -> Result<(), BookFault>
         ensures many { OnOk result (length clients.now ≡ made) }
         ensures apart { OnOk result (AreApart (map C.member clients.now)) }
@@ -324,13 +325,13 @@ impl<N: Based, D: Disk> Book<N, D> {
         self.recorded.ready(made, clients)
     }
 
-    /// Ends the book, with a share that is the whole ledger: this share counts as many calls as the history has.
+    /// Ends the book, given a share that is the whole ledger: this share counts as many calls as the history has.
     pub fn end(self, whole: Share<N>) -> Ended<D>
         requires parts { whole.parts ≡ N.parts }
         ensures sound { IsSound D.Disk N.base N.from N.left (record { base = result.base; library = result.library; history = result.history.items; failed = result.failed.items }) }
         ensures blamed { FailedByDevice D.Disk N.failures (record { base = result.base; library = result.library; history = result.history.items; failed = result.failed.items }) }
         ensures counted { length result.history.items ≡ whole.amount }
-        // The answer is the book's library, with what was known about the book.
+        // The result has the library of the book, its history, and all else that contracts see of it.
         ensures of_book { ◌≡◌ {A = BookView D} (record { base = result.base; library = result.library; history = result.history.items; failed = result.failed.items }) self.book }
     {
         self.survives();
@@ -339,13 +340,14 @@ impl<N: Based, D: Disk> Book<N, D> {
         recorded.end(whole)
     }
 
-    /// The disk, and whether these are all clients of the history. It takes no memory.
+    /// Gives up the book: the result is its disk, and whether these are all clients of the history. The call needs no memory.
     pub fn give_up<C: HasReceipts>(self, clients: &[C]) -> (D, bool)
         ensures disk { result.0 ≡ self.book.library.disk }
         ensures sound { IsSound D.Disk N.base N.from N.left self.book }
         ensures blamed { FailedByDevice D.Disk N.failures self.book }
         ensures own { AreOwn (map C.member clients.now) }
-        // If they are, every receipt of theirs is in the history, and every entry has a receipt; if not, the reason.
+        // If these are all clients, each of their receipts is in the history, and each entry has a receipt; if not, a receipt or a client
+        // shows why.
         ensures closed { IsTrue result.1 → IsClosed self.book.history (map C.member clients.now) }
         ensures why { result.1 ≡ false → IsNotWhole self.book.history (map C.member clients.now) }
     {
@@ -359,14 +361,15 @@ impl<N: Based, D: Disk> Book<N, D> {
         // Some run of the core leads from an opened disk to a state that the book shows.
         ensures reached { IsTrue D.honest → IsTied compiling Keeps D.Disk self.now.book }
 
-        // The history is legal, and the map is the base with its changes. What a crash leaves now has each acknowledged command,
-        // what a crash has left since the opening has a prefix of the calls, and the units in both are right.
+        // The history is legal, and the map is the base with its changes. What a crash leaves now has each acknowledged command, and what a
+        // crash has left since the opening has a prefix of the calls. In both, each unit was found at the opening or agrees with its
+        // source.
         ensures sound { IsSound D.Disk N.base N.from N.left self.now.book }
 
         // Each change that failed did so in a call of the device that failed since the opening.
         ensures blamed { FailedByDevice D.Disk N.failures self.now.book }
 
-        // Whatever a crash has left since the end of the opening, or since any call, has all calls up to then.
+        // Whatever a crash has left since the end of the opening, or since any call, has all calls up to that moment.
         ensures since { IsTrue D.honest → (k : ℕ) (then' : BookView D) → slice_get self.now.since k ≡ Some then' → (image : List ℕ)
             → D.left_since self.now.book.library.disk (D.moment then'.library.disk) image → HoldsFrom self.now.book (length then'.history) image }
 

@@ -1,4 +1,4 @@
-// Whether a library with its history can be ended with its clients.
+// Whether a library with its history can be ended with these clients.
 
 ghost use Rattle.std.specs.Prelude.{◌≡◌, ℕ, ◌↔◌, false, IsTrue, IfErr, OnErr, OnOk, length, map};
 ghost use Rattle.cc_history.specs.Closing.{AreApart, AreOwn, IsClosed, IsNotWhole, ReceiptsStand, SomeoneAstray, receipts_of};
@@ -26,7 +26,7 @@ fn are_apart<C: HasReceipts>(clients: &[C]) -> bool
     true
 }
 
-// Ok if all receipts of all these clients match the history; else as `all_stand` refuses.
+// Ok if all receipts of all these clients match the history; else the refusal of `all_stand`.
 fn stand_in<C: HasReceipts>(history: &[SharedEntry], clients: &[C]) -> Result<(), BookFault>
     ensures stand { OnOk result (ReceiptsStand history.now (map C.member clients.now)) }
     ensures err { IfErr result (λ f. (made : ℕ) → IsNotClosed history.now made (map C.member clients.now) f) }
@@ -44,7 +44,7 @@ fn stand_in<C: HasReceipts>(history: &[SharedEntry], clients: &[C]) -> Result<()
 // The number of receipts of all these clients.
 fn count_receipts<C: HasReceipts>(clients: &[C]) -> u128
     ensures count { result ≡ receipts_of (map C.member clients.now) }
-    // The receipts of each are of its own calls.
+    // The receipts of each client are those of its own calls.
     ensures own { AreOwn (map C.member clients.now) }
 {
     let mut count = 0;
@@ -55,7 +55,7 @@ fn count_receipts<C: HasReceipts>(clients: &[C]) -> u128
 }
 
 impl<N: Based, D: Disk> RecordedLibrary<N, D> {
-    // Ok if all receipts of all these clients match the history; else as `all_stand` refuses.
+    // Ok if all receipts of all these clients match the history; else the refusal of `all_stand`.
     fn stands<C: HasReceipts>(&self, clients: &[C]) -> Result<(), BookFault>
         ensures stand { OnOk result (ReceiptsStand self.now.history (map C.member clients.now)) }
         ensures err { IfErr result (λ f. (made : ℕ) → IsNotClosed self.now.history made (map C.member clients.now) f) }
@@ -71,7 +71,7 @@ impl<N: Based, D: Disk> RecordedLibrary<N, D> {
         self.history.len() as u64
     }
 
-    // Ok if the library can be ended with these clients, as many as were made: these are all clients, and their receipts match.
+    // Ok if the library can be ended with these clients: they are all of the `made` clients, and their receipts match.
     pub(crate) fn ready<C: HasReceipts>(&self, made: u64, clients: &[C]) -> Result<(), BookFault>
         ensures many { OnOk result (length clients.now ≡ made) }
         ensures apart { OnOk result (AreApart (map C.member clients.now)) }

@@ -1,4 +1,4 @@
-// Puts an entry into the history and gives its receipt to its client, after the memory for both has been taken.
+// Puts an entry into the history and gives its receipt to its client, after the memory for both has been allocated.
 
 ghost use Rattle.std.specs.Prelude.{◌≡◌, ◌+◌, ◌<◌, ◌++◌, [], ◌∷◌, length, vec_len, OnOk, IfOk};
 ghost use Rattle.std.specs.Vec.{vec_capacity};
@@ -16,7 +16,7 @@ pub(crate) struct Owners {
     pub(crate) caller: SharedEntry,
 }
 
-// Takes the memory for an entry and its receipt.
+// Allocates the memory for an entry and its receipt.
 pub(crate) fn prepare(
     alloc: Global,
     history: &mut Vec<SharedEntry>,

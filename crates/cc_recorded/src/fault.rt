@@ -26,7 +26,8 @@ pub enum BookFault {
     /// 36: an earlier call failed on the device.
     #[error("Closed")]
     Closed,
-    /// 39: at the number of the client's last receipt the history has this entry, or none, in place of the client's.
+    /// 39: at the number of the client's last receipt the history has this entry, or none, instead of the entry in
+    /// the receipt.
     #[error("Estranged")]
     Estranged {
         number: u64,

@@ -1,4 +1,4 @@
-// What a commit is, on the state of the protocol core that a book shows.
+// Which steps of the protocol core a call is, from a state that the book shows.
 
 ghost use Rattle.std.specs.Prelude.{◌≡◌, [], false, true, IsTrue, Option, Result};
 ghost use Rattle.cc_disk.specs.Images.{LeavesAlone};
@@ -22,8 +22,8 @@ ghost use Rattle.cc_core.specs.declared.command.Reply.{Reply};
 use cc_core::build::Build;
 use cc_disk::Disk;
 
-/// Whatever state of the core a book shows: for a client that has a job with the command, a commit with its answer is the steps from Begin
-/// to Ack, or to a refusal or a Fail; and the book afterwards shows the state that is reached.
+/// For every state of the core that a book shows, and every client that has a job with the command: a commit with its answer is the steps
+/// from Begin to Ack, or to a refusal or a Fail; and the book afterwards shows the state that is reached.
 pub fn commits_are_steps<D: Disk, B: Build>()
     ensures { (before after : BookView D) (old new : MemberView) (command : Command) (result : Result Receipt BookFault) (s : Contents B.Piece) (client : ClientId)
         → CommitAnswers D.failures before old command after new result
@@ -32,8 +32,8 @@ pub fn commits_are_steps<D: Disk, B: Build>()
         → IsCommitOf B.rules (Shows D.Disk after) s client result }
 {}
 
-/// A book over a library that was opened on an honest disk shows a state of the core, and that state is a beginning: so whatever the core's
-/// runs keep holds for every state that is shown later.
+/// A book over a library that was opened on an honest disk shows a state of the core, and that state is an initial one: so an invariant of
+/// the core's runs holds for every state that the book shows later.
 pub fn opened_books_begin<D: Disk, B: Build>()
     ensures { (book : BookView D) → book.history ≡ [] → book.failed ≡ [] → book.library.closed ≡ false → book.base ≡ book.library.units
         → StandFor book.library.bodies book.library.units → HoldsRecords (D.seen book.library.disk) book.library.area book.library.bodies
@@ -47,7 +47,7 @@ pub fn jobs_are_beside<D: Disk, B: Build>()
         → IsBeside event → Step B.rules old event reply new → Shows D.Disk book old → Shows D.Disk book new }
 {}
 
-/// Whatever state of the core a book shows: a compaction is the four device steps of a rewrite, or those up to the failure.
+/// For every state of the core that a book shows, a compaction is the four device steps of a rewrite, or those up to the failure.
 pub fn compactions_are_rewrites<D: Disk, B: Build>()
     ensures { (before after : BookView D) (result : Result (Unit {0}) BookFault) (s : Contents B.Piece)
         → CompactAnswers D.failures before after result

@@ -9,18 +9,18 @@ use std::alloc::Global;
 use std::marker::Model;
 use std::sync::ledger::Share;
 
-/// Anything that has a number and the receipts of its calls: a member, or what holds one.
+/// A value that has a number and the receipts of its calls: a member, or a type that contains one.
 pub trait HasReceipts {
     ghost use Rattle.cc_history.specs.History.{MemberView};
 
-    /// The number with the receipts.
+    /// Its number and its receipts.
     ghost member: { Self → MemberView };
 
     /// The number.
     fn number(&self) -> u64
         ensures { result ≡ (member self.now).number };
 
-    /// The receipts of its own calls so far, in order. It takes no memory.
+    /// The receipts of its own calls so far, in order. The call needs no memory.
     fn receipts(&self) -> &[Receipt]
         ensures answer { result.now ≡ (member self.now).receipts }
         ensures own { IsOwn (member self.now) };
@@ -34,7 +34,7 @@ pub struct Member<N: Based> {
     pub(crate) share: Share<N>,
 }
 
-// Written by hand, so that crates above call it and need not prove again how each part is dropped.
+// Written by hand, so that the crates above call it instead of proving again how each part is dropped.
 impl<N: Based> Drop for Member<N> {
     fn drop(self) {
         let Member {

@@ -3,7 +3,8 @@
 use std::marker::Brand;
 use std::sync::ledger::Ledger;
 
-/// The ledger of a book, the map with which it began, and what a crash had left before. Whoever opens a book chooses them.
+/// The ledger of a book, the map with which the book began, and what a crash could have left before. Whoever opens a book chooses
+/// these.
 pub trait Based: Ledger {
     ghost use Rattle.std.specs.Prelude.{ℕ, List};
     ghost use Rattle.cc_library.specs.Apply.{Units};
@@ -11,8 +12,7 @@ pub trait Based: Ledger {
     /// The map that an honest disk's library had when the book was opened.
     ghost base: { Units };
 
-    /// A number no larger than that of the device calls that had failed at the opening: each change that failed did so in a call that
-    /// failed later.
+    /// At most the number of device calls that had failed at the opening: each change that failed did so in a call that failed later.
     ghost failures: { ℕ };
 
     /// A moment of that disk, no later than the opening: the book says what a crash has left since then.

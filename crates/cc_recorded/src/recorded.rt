@@ -68,7 +68,7 @@ pub struct Ended<D: Disk> {
 }
 
 impl<N: Based, D: Disk> RecordedLibrary<N, D> {
-    /// The book of a service that begins, over a library that was opened and whose map is the base.
+    /// The book of a service that begins, over a library that was opened; the library's map is the base.
     pub(crate) fn new(
         alloc: Global,
         base: UnitMap,
@@ -98,7 +98,7 @@ impl<N: Based, D: Disk> RecordedLibrary<N, D> {
         library.into_disk()
     }
 
-    /// Gives proofs what the type keeps; at run time it does nothing.
+    /// Shows the prover what the type keeps; at run time this does nothing.
     pub(crate) fn kept(&self)
         ensures base { IsTrue D.honest → self.now.base ≡ N.base }
         ensures replays { Replays (chronicle_of self.now) }
@@ -111,7 +111,8 @@ impl<N: Based, D: Disk> RecordedLibrary<N, D> {
         let _ = &self.base;
     }
 
-    /// Makes a change, and puts the call into the history with its answer: `Book::commit` has the refusals and what each leaves.
+    /// Makes a change, and puts the call into the history with its answer: `Book::commit` says how it may be refused, and what each
+    /// refusal leaves.
     pub fn commit(
         &mut self,
         alloc: Global,
@@ -177,7 +178,7 @@ impl<N: Based, D: Disk> RecordedLibrary<N, D> {
         }
     }
 
-    /// Whether 34 would refuse the change now, but not after a compaction.
+    /// Whether the change would be refused with 34 now, but not after a compaction.
     ///
     /// 39 if the client's last receipt does not match the history; 40 if memory ran out.
     pub(crate) fn is_mended_by_compact(
@@ -207,7 +208,7 @@ impl<N: Based, D: Disk> RecordedLibrary<N, D> {
         }
     }
 
-    /// Looks up a name or all names, and puts the call into the history with its answer: `Book::look` has the refusals.
+    /// Looks up a name or all names, and puts the call into the history with its answer: `Book::look` says how it may be refused.
     pub fn look(
         &mut self,
         alloc: Global,
@@ -259,7 +260,7 @@ impl<N: Based, D: Disk> RecordedLibrary<N, D> {
         Ok(self.library.space())
     }
 
-    /// Writes the library's records again: `Book::compact` has the refusals.
+    /// Writes the library's records again: `Book::compact` says how it may be refused.
     pub fn compact(&mut self, alloc: Global) -> Result<(), BookFault>
         ensures compacted { IsBookCompacted D.Disk self.old self.new result }
     {
@@ -274,12 +275,11 @@ impl<N: Based, D: Disk> RecordedLibrary<N, D> {
         Ok(())
     }
 
-    /// Ends the library with its history, with a share that is the whole ledger: this share counts as many calls as the history
-    /// has.
+    /// Ends the library with its history, given a share that is the whole ledger: this share counts as many calls as the history has.
     pub(crate) fn end(self, mut whole: Share<N>) -> Ended<D>
         requires parts { whole.parts ≡ N.parts }
         ensures counted { length result.history.items ≡ whole.amount }
-        // The answer is the book's library, with what was known about the book.
+        // The result has the library of the book, its history, and all else that contracts see of it.
         ensures of_book { ◌≡◌ {A = BookView D} (record { base = result.base; library = result.library; history = result.history.items; failed = result.failed.items }) self }
     {
         let RecordedLibrary {

@@ -1,4 +1,5 @@
--- Objects, parameters and external declarations, one after another: what is done, followed by what is left, is the whole.
+-- Objects, parameters and external declarations, one after another: what has been added, followed by what is left to add,
+-- is the whole.
 use Rattle.std.proofs.Common.{◌≡◌, ℕ, suc, ◌+◌, ◌-◌, ◌<◌, ◌≤◌, List, [], ◌∷◌, ◌++◌, length, map, replicate, Some, None, refl, sym, ap, ◌∙◌, append_assoc, arith}
 use Rattle.cc_ast.specs.scalar.Scalar.{Scalar}
 use Rattle.cc_ast.specs.Tree.{Name, Parameter, Object, External, Declaration, Definition, Objects}
@@ -14,15 +15,15 @@ use Rattle.cc_resolve.specs.internal.Laying.{offset_behind}
 
 -- ---- lists
 
--- one more member of a list, after those that are done
+-- moving the next member from what is left to what is done does not change the whole list
 pub one-more : {A : Type 0} (done done' : List A) (x : A) (rest whole : List A) → done ++ (x ∷ rest) ≡ whole → done' ≡ done ++ x ∷ [] → done' ++ rest ≡ whole
 one-more done done' x rest whole e is = ap (λ l. l ++ rest) is ∙ append_assoc done (x ∷ []) rest ∙ e
 
--- some more members
+-- moving several members at once does not change the whole list either
 pub some-more : {A : Type 0} (done done' xs rest whole : List A) → done ++ (xs ++ rest) ≡ whole → done' ≡ done ++ xs → done' ++ rest ≡ whole
 some-more done done' xs rest whole e is = ap (λ l. l ++ rest) is ∙ append_assoc done xs rest ∙ e
 
--- one more zero is done
+-- moving one of n zeros does not change the whole list
 pub one-more-zero : (done done' whole : List ℕ) (n k : ℕ) → k < n → done ++ replicate (n - k) 0 ≡ whole → done' ≡ done ++ 0 ∷ [] → done' ++ replicate (n - (k + 1)) 0 ≡ whole
 one-more-zero done done' whole n k h e is =
     let left : n - k ≡ suc (n - (k + 1)) = omega arith in
@@ -30,7 +31,7 @@ one-more-zero done done' whole n k h e is =
 
 -- ---- the words of objects, and where they are
 
--- the state after some objects of a list
+-- the state of the walk after some objects of a list
 pub record Placing (p0 : Layout) (w0 : List ℕ) (at0 : ℕ) (all : List Object) (p : Layout) (w : List ℕ) (at : ℕ) (rest : List Object) : Type 0 where
   pub objects : p.objects ++ laid_from at rest ≡ p0.objects ++ laid_from at0 all
   pub functions : p.functions ≡ p0.functions
@@ -77,7 +78,7 @@ function_texts-next (Declaration s) rest = refl
 function_texts-next (Definition s body) rest = refl
 function_texts-next (Objects t os) rest = refl
 
--- the state after some external declarations of a unit
+-- the state of the walk after some external declarations of a unit
 pub record Finding (all : List External) (p : Layout) (w : List ℕ) (at : ℕ) (rest : List External) : Type 0 where
   pub laid : p.objects ++ laid_from at (objects rest) ≡ laid_from 0 (objects all)
   pub numbered : p.functions ++ function_texts rest ≡ function_texts all
@@ -108,7 +109,7 @@ Finding-next all p w at e rest p' w' at' before ep ew ea h =
 
 -- ---- the names of objects
 
--- the state after some names in a declaration of objects
+-- the state of the walk after some names in a declaration of objects
 pub record Naming (t : Scalar) (v0 : Environment) (all : List Object) (v : Environment) (rest : List Object) : Type 0 where
   pub inner : v.visible.inner ≡ []
   pub names : record v { visible = file_level (with_objects t rest (file_of v.visible)).bindings } ≡ record v0 { visible = file_level (with_objects t all (file_of v0.visible)).bindings }
@@ -123,13 +124,13 @@ Naming-next t v0 all v o rest v' before e = record {
       ∙ before.names;
 }
 
--- an environment in which only file scope is open
+-- if no inner scope has declared a name, the environment is one in which only file scope is open
 pub in-file : (v : Environment) → v.visible.inner ≡ [] → v ≡ record v { visible = file_level v.visible.outer }
 in-file v e i = record { visible = record { inner = e i; outer = v.visible.outer }; locals = v.locals; layout = v.layout }
 
 -- ---- functions
 
--- the state after some parameters
+-- the state of the walk after some parameters
 pub record Declaring (v0 : Environment) (all : List Parameter) (v : Environment) (rest : List Parameter) : Type 0 where
   pub names : record v { visible = parameters_declared rest v.visible; locals = parameter_names rest v.locals } ≡ record v0 { visible = parameters_declared all v0.visible; locals = parameter_names all v0.locals }
 
@@ -141,6 +142,6 @@ Declaring-next v0 all v p rest v' before e = record {
   names = ap (λ (u : Environment). record u { visible = parameters_declared rest u.visible; locals = parameter_names rest u.locals }) e ∙ before.names;
 }
 
--- after a function's body its parameters are not in scope
+-- after a function's body, its parameters are no longer in scope
 pub function-closed : (ps : List Parameter) (bs : List Binding) → closed 0 (parameters_declared ps (file_level bs)) ≡ file_level bs
 function-closed ps bs = ap file_level (parameters_declared-outer ps (file_level bs))

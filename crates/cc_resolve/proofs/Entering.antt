@@ -1,4 +1,4 @@
--- The functions that a unit defines, one by one, up to the one with a given number.
+-- A walk over the functions that a unit defines, one by one, up to the one with a given number.
 use Rattle.std.proofs.Common.{◌≡◌, ℕ, suc, ◌<◌, List, [], ◌∷◌, length, Some, slice_get, Result, Ok, Err, OnOk, refl, sym, ap, ◌∙◌, subst, arith}
 use Rattle.cc_ast.specs.scalar.Scalar.{Scalar}
 use Rattle.cc_ast.specs.Erase.{external_trees}
@@ -31,7 +31,8 @@ length-environments p (Declaration s ∷ es) f = length-environments p es (file_
 length-environments p (Definition s body ∷ es) f = ap suc (length-environments p es (file_scope_behind (Definition s body) f))
 length-environments p (Objects t os ∷ es) f = length-environments p es (file_scope_behind (Objects t os) f)
 
--- the state after some external declarations of a unit, with this many functions still to come before the one with the number
+-- the state of the walk after some external declarations of a unit, if `left` more functions precede the one with the number
+-- `function`
 pub record Entering (all : List External) (function : ℕ) (v : Environment) (left : ℕ) (rest : List External) : Type 0 where
   pub inner : v.visible.inner ≡ []
   pub locals : v.locals ≡ []
@@ -39,7 +40,7 @@ pub record Entering (all : List External) (function : ℕ) (v : Environment) (le
   pub found : slice_get (environments_from (layout_of all) rest (file_of v.visible)) left ≡ slice_get (environments all) function
   pub bound : left < length (definitions rest)
 
--- the state before the first declaration
+-- before the first declaration, the state of the walk is as `Entering` says
 pub Entering-first : (all : List External) (function : ℕ) (p : Layout) (v : Environment) → v ≡ record { visible = file_level first_file_scope.bindings; locals = []; layout = p } → p ≡ layout_of all
     → function < length (definitions all) → Entering all function v function all
 Entering-first all function p v ev ep lt = record {
@@ -50,7 +51,7 @@ Entering-first all function p v ev ep lt = record {
   bound = lt;
 }
 
--- the state after a declaration that defines no function
+-- a declaration that defines no function leaves the functions that are still to come as they are
 skipped : (all : List External) (function : ℕ) (v : Environment) (left : ℕ) (e : External) (rest : List External) (v' : Environment)
     → environments_from (layout_of all) (e ∷ rest) (file_of v.visible) ≡ environments_from (layout_of all) rest (file_scope_behind e (file_of v.visible)) → definitions (e ∷ rest) ≡ definitions rest
     → Entering all function v left (e ∷ rest) → v' ≡ record v { visible = file_level (file_scope_behind e (file_of v.visible)).bindings } → Entering all function v' left rest
@@ -73,7 +74,7 @@ pub Entering-objects : (all : List External) (function : ℕ) (v : Environment) 
     → Entering all function v left (Objects t os ∷ rest) → v' ≡ record v { visible = file_level (with_objects t os (file_of v.visible)).bindings } → Entering all function v' left rest
 Entering-objects all function v left t os rest v' before ev = skipped all function v left (Objects t os) rest v' refl refl before ev
 
--- the state after a definition of another function
+-- after the definition of another function, the state of the walk is as `Entering` says
 pub Entering-definition : (all : List External) (function : ℕ) (v : Environment) (left left' : ℕ) (s : Signature) (body : Stmts) (rest : List External) (v' : Environment)
     → Entering all function v left (Definition s body ∷ rest) → left ≡ suc left' → v' ≡ record v { visible = file_level (with_function s (file_of v.visible)).bindings } → Entering all function v' left' rest
 Entering-definition all function v left left' s body rest v' before next ev = record {
@@ -87,13 +88,13 @@ Entering-definition all function v left left' s body rest v' before next ev = re
   bound = omega (arith, before.bound, next);
 }
 
--- the environment at the function with the number
+-- when the function with the number is reached, the environment is the one at the start of its body
 pub Entering-found : (all : List External) (function : ℕ) (v : Environment) (s : Signature) (body : Stmts) (rest : List External) (v' : Environment)
     → Entering all function v 0 (Definition s body ∷ rest) → v' ≡ environment_of v.layout s (file_of v.visible) → slice_get (environments all) function ≡ Some v'
 Entering-found all function v s body rest v' before ev =
     sym before.found ∙ ap Some (sym (ev ∙ ap (λ p. environment_of p s (file_of v.visible)) before.layout))
 
--- ---- the same in terms of the code
+-- ---- the walk, in terms of the code
 
 pub Entering-at : (all : List External) (function : ℕ) (v : Environment) (left : ℕ) (x y : declared.External) (rest : List declared.External)
     → x ≡ y → Entering all function v left (external_trees (x ∷ rest)) → Entering all function v left (external_trees (y ∷ rest))

@@ -14,9 +14,10 @@ use Rattle.cc_resolve.specs.Layout.{LaidObject, extent_of, object_number, names_
 use Rattle.cc_resolve.specs.Environment.{number_in}
 use Rattle.cc_resolve.specs.declared.layout.Extent.{Extent}
 
--- ---- one more name
+-- ---- a name is added
 
--- the number of a name if it has one, else the last number if the name is the last one
+-- the place that was found for a name already; if none was found, the last place, provided the last name is that
+-- name
 abbrev pub or_last : Option ℕ → ℕ → Bool → Option ℕ
 or_last None n b = cond b (Some n) None
 or_last (Some i) n b = Some i
@@ -64,7 +65,7 @@ module _ (list : List (Bor (List ℕ))) (y : Bor (List ℕ)) (names : List (List
   place-same : (table : ℕ → Option ℕ) → ArePlaces list names table → (q : List ℕ) → same_name y.now q ≡ true → first_of (names_in list) q ≡ table n
   place-same table before q h = sym (ap (first_of (names_in list)) ((bytes_decides y.now q).0 h)) ∙ sym (place-is table before)
 
-  -- a name that is there already keeps its place
+  -- a name that is in the list already keeps its place
   pub ArePlaces-again : (table : ℕ → Option ℕ) → ArePlaces list names table → (r : Option ℕ) → r ≡ table n → is_some r ≡ true → ArePlaces (list ++ y ∷ []) names table
   ArePlaces-again table before None er h = absurd (let no : false ≡ true = h in cc)
   ArePlaces-again table before (Some i) er h = record {
@@ -174,7 +175,7 @@ number_in-names (b ∷ bs) x = by (same_name b.name x) (number_in-names bs x)
     by true e = ap Some (long bs)
     by false e = e
 
--- a result that is not an error
+-- if P holds on success, and the result is not an error, P holds
 pub when_ok : {A E : Type 0} {P : Type 0} (r : Result A E) → OnOk r P → is_err r ≡ false → P
 when_ok (Ok a) p h = p
 when_ok (Err e) p h = absurd (let no : true ≡ false = h in cc)

@@ -31,7 +31,7 @@ abbrev pub object_number : List LaidObject → List ℕ → Option ℕ
 object_number [] x = None
 object_number (p ∷ rest) x = if same_name p.name x then Some 0 else option_map suc (object_number rest x)
 
--- how many names precede a name
+-- how many names precede the first place of a name
 abbrev pub names_before : List (List ℕ) → List ℕ → ℕ
 names_before [] x = 0
 names_before (y ∷ rest) x = if same_name y x then 0 else 1 + names_before rest x
@@ -45,7 +45,7 @@ pub record Layout : Type 0 where
 abbrev pub layout_of : List External → Layout
 layout_of externals = record { objects = laid_from 0 (objects externals); functions = map (λ (x : Name). x.text) (function_names externals) }
 
--- what a called name refers to: a builtin, else the function with its number
+-- what a called name refers to: a builtin, or else the function with that name, given by its number
 abbrev pub callee : Layout → List ℕ → Callee
 callee p x = if same_name (codes "write_word") x then WriteWord else (if same_name (codes "read_word") x then ReadWord else Defined (names_before p.functions x))
 

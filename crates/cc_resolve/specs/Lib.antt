@@ -4,7 +4,7 @@ pub mod Layout
 pub mod Environment
 -- the operation on words that an operator performs in its type
 pub mod Operations
--- how the code keeps the numbers of names
+-- how the code stores the names of objects and functions
 pub mod Numberings
 -- definitions that only private contracts and proofs use
 pub mod internal

@@ -1,4 +1,4 @@
--- How the code keeps the names of the objects and of the functions of a unit.
+-- How the code stores the names of the objects and of the functions of a unit.
 use Rattle.std.specs.Prelude.{ℕ, suc, ◌≡◌, ◌≤◌, List, [], ◌∷◌, length, map, Option, Some, None, if◌then◌else◌, option_map}
 use Rattle.std.specs.Borrow.{Bor}
 use Rattle.cc_types.specs.Names.{same_name}
@@ -8,7 +8,7 @@ use Rattle.cc_resolve.specs.Layout.{LaidObject}
 use Rattle.cc_types.specs.Scope as scope
 use Rattle.cc_resolve.specs.declared.layout.Extent.{Extent}
 
--- how many names precede a name in a list that has it
+-- how many names precede the first place of a name in the list, or None if it is not in the list
 abbrev pub first_of : List (List ℕ) → List ℕ → Option ℕ
 first_of [] x = None
 first_of (y ∷ rest) x = if same_name y x then Some 0 else option_map suc (first_of rest x)

@@ -35,7 +35,8 @@ impl<'a> Model for Environment<'a> {
 }
 
 impl<'a> Environment<'a> {
-    /// Returns file scope at the start of a text: the builtins, and no locals. `AllocError` if memory runs out.
+    /// Returns the environment at the start of a text: file scope with the builtins, and no locals. `AllocError` if memory runs
+    /// out.
     pub fn new(alloc: Global, layout: Layout<'a>) -> Result<Environment<'a>, AllocError>
         ensures { IfOk result (λ v. v ≡ record { visible = file_level first_file_scope.bindings; locals = []; layout = layout.entry }) }
     {
@@ -112,7 +113,7 @@ impl<'a> Environment<'a> {
         self.locals.pop();
     }
 
-    /// Removes all locals, once no scope has them any more.
+    /// Removes all locals, once none of them is in scope.
     pub(crate) fn forget_locals(&mut self)
         ensures { self.new ≡ record self.old { locals = [] } }
     {
@@ -121,7 +122,7 @@ impl<'a> Environment<'a> {
         }
     }
 
-    /// Frees the names. It is one call so that the crates above need not show how each part is dropped.
+    /// Frees the names. This function exists so that the crates above need not show how each part is dropped.
     pub fn release(self) {}
 
     /// How many locals are in scope.
@@ -131,7 +132,7 @@ impl<'a> Environment<'a> {
         self.locals.len()
     }
 
-    /// The type of a variable's value. A name that is not a variable counts as one of type `int`.
+    /// The type of a variable's value. A name that is not a variable counts as a variable of type `int`.
     pub fn variable_type(&self, name: &[u8]) -> Scalar
         ensures { result ≡ variable_type (found (types_in self.now) name.now) }
     {
@@ -141,7 +142,7 @@ impl<'a> Environment<'a> {
         }
     }
 
-    /// The type of an array's elements. A name that is not an array counts as one of type `int`.
+    /// The type of an array's elements. A name that is not an array counts as an array of `int`.
     pub fn element_type(&self, name: &[u8]) -> Scalar
         ensures { result ≡ element_type (found (types_in self.now) name.now) }
     {
@@ -164,8 +165,8 @@ impl<'a> Environment<'a> {
         }
     }
 
-    /// The number of the local that a name refers to, or `None` if it refers to no local. The number is how many locals were in
-    /// scope when it was declared.
+    /// The number of the local that a name refers to, or `None` if the name does not refer to a local. The number is how many
+    /// locals were in scope when the local was declared.
     pub fn local(&self, name: &[u8]) -> Option<usize>
         ensures { result ≡ number_in self.now.locals name.now }
     {
@@ -175,8 +176,8 @@ impl<'a> Environment<'a> {
         }
     }
 
-    /// Where the words of the named object are. A name that no object has gets no words, at offset 0. A local with the same name
-    /// does not hide the object.
+    /// Where the words of the named object are. If no object has the name, the extent has no words, at offset 0. A local with
+    /// the same name does not hide the object.
     pub fn object(&self, name: &[u8]) -> Extent
         ensures { result ≡ extent_of self.now.layout.objects name.now }
     {
@@ -190,8 +191,8 @@ impl<'a> Environment<'a> {
         self.layout.object_number(name)
     }
 
-    /// What a called name refers to: a builtin, or the number of a function in the order of definitions. A name that no function
-    /// has gets the number of functions.
+    /// What a called name refers to: a builtin, or the number of a function in the order of definitions. If no function has the
+    /// name, the number is how many functions there are.
     pub fn callee(&self, name: &[u8]) -> Callee
         ensures { result ≡ callee self.now.layout name.now }
     {

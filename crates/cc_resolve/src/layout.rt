@@ -9,8 +9,8 @@ use cc_words::Width;
 use std::alloc::{AllocError, Global};
 use std::marker::Model;
 
-/// Where an object's words are in the list of all objects' words, with one word for each element: the index of the first, how
-/// many there are, and how wide the elements are.
+/// Where an object's words are in the list of all objects' words, which has one word for each element: the index of the first
+/// word, the number of words, and how wide the elements are.
 #[derive(Clone, Copy)]
 pub struct Extent {
     pub offset: usize,
@@ -25,7 +25,8 @@ pub enum Callee {
     WriteWord,
     /// The builtin `read_word`.
     ReadWord,
-    /// The function with this number, in the order of definitions. A name that no function has gets the number of functions.
+    /// The function with this number, in the order of definitions. If no function has the name, the number is how many
+    /// functions there are.
     Defined(usize),
 }
 
@@ -66,7 +67,7 @@ impl<'a> Model for Layout<'a> {
 }
 
 impl<'a> Layout<'a> {
-    /// Returns the layout of a unit without objects and functions.
+    /// Returns the layout of a unit that has no objects and no functions.
     pub(crate) fn new(alloc: Global) -> Layout<'a>
         ensures { result ≡ record { objects = []; functions = [] } }
     {
@@ -77,7 +78,7 @@ impl<'a> Layout<'a> {
         }
     }
 
-    /// Adds an object after the others. If two have the same name, the name refers to the first.
+    /// Adds an object after the others. If two objects have the same name, the name refers to the first.
     pub(crate) fn add_object(&mut self, name: &'a [u8], extent: Extent) -> Result<(), AllocError>
         ensures { OnOk result (self.new ≡ record self.old { objects = self.old.objects ++ record { name = name.now; extent = extent } ∷ [] }) }
     {
@@ -96,7 +97,7 @@ impl<'a> Layout<'a> {
         self.functions.push(name)
     }
 
-    /// Where the words of an object are. A name that no object has gets no words, at offset 0.
+    /// Where the words of an object are. If no object has the name, the extent has no words, at offset 0.
     pub(crate) fn extent(&self, name: &[u8]) -> Extent
         ensures { result ≡ extent_of self.now.objects name.now }
     {
@@ -113,7 +114,7 @@ impl<'a> Layout<'a> {
         self.objects.find(name)
     }
 
-    /// The number of a function. A name that no function has gets the number of functions.
+    /// The number of a function. If no function has the name, the result is how many functions there are.
     pub fn function(&self, name: &[u8]) -> usize
         ensures { result ≡ names_before self.now.functions name.now }
     {

@@ -5,7 +5,7 @@
 //! - `environment`: what surrounds a statement; `declarations`, `objects` and `units` bring names into it.
 //! - `operations`: the operation on words that an operator performs.
 //!
-//! Every walk that translates a typed unit uses these.
+//! Every walk that translates a typed unit uses these modules.
 #![tactic(auto)]
 
 mod declarations;

@@ -1,4 +1,4 @@
-// The objects at file scope: their initial words, where these are, and the objects' names.
+// The objects at file scope: their initial words, the places of those words, and the objects' names.
 
 ghost use Rattle.std.specs.Prelude.{◌≡◌, ◌≤◌, ◌+◌, ◌%◌, ◌^◌, [], ◌∷◌, ◌++◌, Some, length, map, replicate, OnOk, IfOk};
 ghost use Rattle.cc_ast.specs.Erase.{constant_tree, constant_trees, optional_constant, object_tree, object_trees};
@@ -47,7 +47,7 @@ fn add_values(words: &mut Vec<u32>, trees: &[ConstantExpression]) -> Result<(), 
     Ok(())
 }
 
-// Appends the bytes of an initialiser list, one word for each.
+// Appends the bytes of an initialiser list, one word for each byte.
 fn add_bytes(words: &mut Vec<u32>, trees: &[ConstantExpression]) -> Result<(), AllocError>
     ensures { OnOk result (words.new.items ≡ words.old.items ++ map (λ (c : tree.ConstantExpr). initial_word (Some c) % 2 ^ 8) (constant_trees trees.now)) }
 {
@@ -112,8 +112,8 @@ fn object_name(tree: &Object) -> &[u8]
     }
 }
 
-// Adds an object whose words begin at an offset, and returns the offset after them. Appends its words to `words`, which has at
-// least as many words as the objects before it.
+// Adds an object whose words begin at an offset, and returns the offset after the words. Appends its words to `words`, which
+// contains at least as many words as the objects before it have.
 fn add_object<'a>(
     layout: &mut Layout<'a>,
     words: &mut Vec<u32>,
@@ -142,8 +142,8 @@ fn add_object<'a>(
     Ok(offset + length)
 }
 
-/// Adds objects, the first one at this offset, and returns the offset after them. Appends their words to `words`, which has at
-/// least as many words as the objects before them.
+/// Adds objects, the first one at this offset, and returns the offset after them. Appends their words to `words`, which
+/// contains at least as many words as the objects before them have.
 pub fn add_objects<'a>(
     layout: &mut Layout<'a>,
     words: &mut Vec<u32>,

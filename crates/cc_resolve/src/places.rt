@@ -1,7 +1,7 @@
 // Lists of names, with the first place of each name.
 //
-// A name gets a number, found by the order of the names' bytes, and a table has the name's first place at that number. So no
-// choice of names makes a search long or makes two names collide.
+// A name gets a number, found by the order of the names' bytes, and at that number a table contains the name's first place.
+// So no choice of names makes a search long or makes two names collide.
 
 ghost use Rattle.std.specs.Prelude.{◌≡◌, [], ◌∷◌, ◌++◌, length, OnOk, OnErr};
 ghost use Rattle.cc_resolve.specs.Numberings.{first_of};
@@ -49,7 +49,7 @@ impl<'a> Places<'a> {
         self.list.len()
     }
 
-    /// The first place of a name, or `None` if the list does not have it.
+    /// The first place of a name, or `None` if the name is not in the list.
     pub fn find(&self, name: &[u8]) -> Option<usize>
         ensures { result ≡ first_of self.now name.now }
     {

@@ -71,8 +71,8 @@ pub fn leave_function(names: &mut Environment<'_>)
     names.forget_locals();
 }
 
-// Adds the objects and the function of an external declaration, whose first object begins at an offset, and returns the offset
-// after the objects.
+// Adds the objects and the function of an external declaration, and returns the offset after the objects. The first object
+// begins at the given offset.
 fn add_external<'a>(
     layout: &mut Layout<'a>,
     words: &mut Vec<u32>,

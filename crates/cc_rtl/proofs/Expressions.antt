@@ -37,7 +37,7 @@ pub bound : {A B : Type 0} (x : Option A) (f : A → Option B) (b : B) → then_
 bound None f b e = none_some b e
 bound (Some a) f b e = record { part = a; is = refl; gives = e }
 
--- expressions, and how many registers and nodes they take
+-- at most this many registers and nodes are needed for an expression
 abbrev pub cost : Expression → ℕ
 cost (Constant w) = 1
 cost (Local x) = 1
@@ -59,11 +59,11 @@ module _ (nodes : Graph) (count : ℕ) where
   pub no_way : (c : Configuration) → Way c 0 c
   no_way c = (refl, refl)
 
-  -- a node whose move leads to d is a way of one move
+  -- if a node's move leads to d, there is a way of one move to d
   pub node_goes : (l : ℕ) (r : Registers) (h : World) (n : rtl.Node) (d : Configuration) → nodes l ≡ Some n → node_move n r h ≡ Goes d → Way (at l r h) 1 d
   node_goes l r h n d e go = (d, ap (λ x. tried x (λ node. node_move node r h)) e ∙ go, (refl, refl))
 
-  -- registers hold the variables
+  -- the registers of the variables hold their words
   abbrev pub Holds : (ℕ → ℕ) → Registers → Type 0
   Holds l r = (x : ℕ) → x < count → r x ≡ l x
 
@@ -90,7 +90,7 @@ module _ (nodes : Graph) (count : ℕ) where
     some_is : (v w : ℕ) → Some v ≡ Some w → v ≡ w
     some_is v w e = cc
 
-    -- if an expression's nodes put its value into a register, so do an operand's
+    -- if an expression's nodes put its value into a register, so do the nodes of an operand
     held : (e : Expression) → Runs e → (free register free' entry exit : ℕ) (r : Registers) (v : ℕ) → Held nodes count e (Into nodes count e) free register free' entry exit → count ≤ free → Holds l r → value e l h ≡ Some v → Holding (cost e) free register entry exit r v
     held e runs free register free' entry exit r v (le, lt, inl (is, low, same)) above holds eq = record {
       moves = 0;
@@ -114,7 +114,7 @@ module _ (nodes : Graph) (count : ℕ) where
     one_node : (n cost free to entry exit : ℕ) (r r' : Registers) (v : ℕ) (node : rtl.Node) → nodes entry ≡ Some node → node_move node r h ≡ Goes (at exit r' h) → 1 ≤ cost → ((y : ℕ) → y < free → r' y ≡ put to v r y) → Computes cost free to entry exit r v
     one_node n cost free to entry exit r r' v node stands go one puts = record { moves = 1; after = r'; one = omega arith; few = one; way = node_goes entry r h node (at exit r' h) stands go; puts = puts }
 
-    -- the last node, after the operands are in registers
+    -- once the operands are in registers, the last node computes the value
     last_node : (m most free to entry mid exit : ℕ) (r r1 r2 : Registers) (v : ℕ) (node : rtl.Node) → Way (at entry r h) m (at mid r1 h) → nodes mid ≡ Some node → node_move node r1 h ≡ Goes (at exit r2 h) → m ≤ most → ((y : ℕ) → y < free → r2 y ≡ put to v r y) → Computes (suc most) free to entry exit r v
     last_node m most free to entry mid exit r r1 r2 v node way stands go few puts = record {
       moves = m + 1;

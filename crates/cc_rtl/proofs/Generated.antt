@@ -103,7 +103,7 @@ module _ (count : ℕ) where
       (TwoHeld a b free (register a free) (register b (taken a free)) n) y o (omega arith)
       (λ more (free'', k, held_b, stands) held_a. (taken a free, next.entry, free'', k, held_a, held_grows _ _ more count b _ _ (into_grows _ _ more count b) (taken a free) (register b (taken a free)) free'' next.entry k held_b, more _ _ stands))
 
-  -- the claim with another count, or with a larger limit
+  -- `Right` also holds of a claim that follows, with an equal limit
   weaker : (g : Places) (m : Made) (c most : ℕ) (P Q : Graph → ℕ → Type 0) → Right g m c P → c ≡ most → (P (place_at m.places) m.entry → Q (place_at m.places) m.entry) → Right g m most Q
   weaker g m c most P Q x le f = record { rest = x.rest; prefix = x.prefix; few = let a = x.few in omega arith; claim = f x.claim }
 
@@ -140,7 +140,7 @@ module _ (count : ℕ) where
       (λ f entry. Operands f count (e ∷ es) (registers (e ∷ es) free) free entry next.entry) x y (omega arith)
       (λ more rest one. (taken e free, behind.entry, one, operands_grow _ _ more count es (registers es (taken e free)) (taken e free) behind.entry next.entry rest))
 
-  -- a statement whose only operand is in a register
+  -- a node with one operand, after the nodes of the operand, is right
   one_operand : (e : Expression) (n : rtl.Node) (g : Places) → Uses count e → Right g (operand e count (pushed n g)) (suc (operand_nodes e)) (OneHeld e count (register e count) n)
   one_operand e n g uses = one_held e (makes e) count n (pushed n g) g 1 (suc (operand_nodes e)) (pushed_right n g) (omega arith) uses (omega arith)
 
@@ -151,7 +151,7 @@ module _ (count : ℕ) where
   taken_there f None = omega arith
   taken_there f (Some x) = refl
 
-  -- a loop's head gets its node
+  -- the code of a loop is right once the loop's head gets its node
   closed_right : (a : Statement) (exit : ℕ) (exits : List ℕ) (g : Places) (body : Made) (most : ℕ) → Right (g ++ (None ∷ [])) body most (Here a (length g) exits) → Right g (closed (length g) body) (suc most) (Here (Loop a) exit exits)
   closed_right a exit exits g body most x =
       let n = Some (rtl.Nop body.entry) in

@@ -15,7 +15,7 @@ below_more : (xs : List ℕ) (n m : ℕ) → n ≤ m → AllBelow n xs → AllBe
 below_more [] n m le all = tt
 below_more (x ∷ xs) n m le (lt, all) = (omega arith, below_more xs n m le all)
 
--- where a node leads
+-- each place that the node leads to is below n
 abbrev pub LeadsBelow : ℕ → rtl.Node → Type 0
 LeadsBelow n x = AllBelow n (rtl.successors x)
 

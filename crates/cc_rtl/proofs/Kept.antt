@@ -40,7 +40,7 @@ below_of t bound (x ∷ xs) next (low, all) (zero, lt, e) = (x, low, sym e)
 below_of t bound (x ∷ xs) next (low, all) (suc k, lt, e) = below_of t bound xs next all (k, omega arith, e)
 
 module _ (parameters count : ℕ) (body : Statement) (formed : IsFormed count body) where
-  -- there is a node where a node leads, and it is not the entry
+  -- each node leads to nodes, but not to the entry
   leads : (label : ℕ) (node : rtl.Node) (next : ℕ) → rtl.node_at (generated_rtl parameters count body).nodes label ≡ Some node → Contains (rtl.successors node) next
       → IsSome (rtl.node_at (generated_rtl parameters count body).nodes next) × (next ≢ 0)
   leads label node next e in_it =
@@ -58,7 +58,7 @@ module _ (parameters count : ℕ) (body : Statement) (formed : IsFormed count bo
       let found : rtl.node_at (generated_rtl parameters count body).nodes next ≡ Some (renamed (λ k. l - k) there.0) = ap (rtl.node_at (generated_rtl parameters count body).nodes) back ∙ turned_node g l full far s.0 there.0 within there.1 in
       (ap is_some found, λ (z : next ≡ 0). omega arith)
 
-  -- how many nodes it has
+  -- the function has the counted number of nodes
   pub many : length (generated_rtl parameters count body).nodes ≡ function_nodes body
   many = long_labelled (last parameters count body formed) 0 (nodes_back (places parameters count body formed)) ∙ as_many (places parameters count body formed) (filled parameters count body formed) ∙ (function_right count body formed).1
 

@@ -54,7 +54,7 @@ back_place (Some x ∷ g) f (suc l) n lt e =
     let k : suc (length g) - suc (suc l) ≡ length g - suc l = omega arith in
     ap (nth (nodes_back g ++ x ∷ [])) k ∙ nth_prefix (nodes_back g) (x ∷ []) (length g - suc l) n (back_place g f l n (omega arith) e)
 
--- the node at a place, by its label
+-- the node at a place has as its label the distance of that place from the last one
 pub turned_node : (g : Places) (last : ℕ) → AreFilled g → length g ≡ suc last → (l : ℕ) (n : rtl.Node) → l < length g → place_at g l ≡ Some n → rtl.node_at (labelled_from last 0 (nodes_back g)) (last - l) ≡ Some (renamed (λ k. last - k) n)
 turned_node g last f long l n lt e =
     let k : length g - suc l ≡ last - l = omega arith in

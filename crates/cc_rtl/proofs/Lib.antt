@@ -26,7 +26,7 @@ pub mod Owing
 pub mod Expressions
 -- the nodes of a statement do what it does
 pub mod Statements
--- from a function's entry
+-- a run from a function's entry
 pub mod Whole
 -- a translation stays right when nodes are added
 pub mod Growing

@@ -86,7 +86,7 @@ all_fit-back [] f = tt
 all_fit-back (a ∷ []) f = (f, tt)
 all_fit-back (a ∷ b ∷ rest) (one, f) = subst AllFitIn (sym (reverse_onto (b ∷ rest) a [])) (all_fit-append (reverse (b ∷ rest)) (a ∷ []) (all_fit-back (b ∷ rest) f) (one, tt))
 
--- before the remaining statements, the last one first: what is left makes the whole
+-- the code so far, with the remaining statements put before it, the last one first, makes the whole
 pub record Goes_back (count : ℕ) (exits : List ℕ) (all : List Statement) (first : Made) (entry : ℕ) (places : Places) (left : List Statement) : Type 0 where
   pub code : made_back count (reverse exits) left (made_at entry places) ≡ made_back count (reverse exits) all first
   pub room : length places + nodes_in left ≡ length first.places + nodes_in all
@@ -130,7 +130,7 @@ no_deeper measure xs i x lt is =
     let at_place : x ≡ get_or xs (length xs - 1 - i) x = is ∙ get_or-reverse xs i x (omega arith) in
     subst (λ y. measure y ≤ most measure xs) (sym at_place) (at_most measure xs (length xs - 1 - i) x (omega arith))
 
--- the statement that an iterator gives next
+-- the statements that are left begin with the one that an iterator gives next
 pub next_left : (all : List Statement) (i : ℕ) (s : Statement) → i < length all → s ≡ get_or all i s → drop i all ≡ s ∷ drop (i + 1) all
 next_left all i s lt is = drop-cons all i s lt ∙ ap (λ y. y ∷ drop (suc i) all) (sym is) ∙ ap (λ k. s ∷ drop k all) (let k : suc i ≡ i + 1 = omega arith in k)
 
@@ -162,7 +162,7 @@ pub length_places : (es : List (Entry (Option Node))) → length (places_of es) 
 length_places [] = refl
 length_places (e ∷ es) = length-append (places_of es) _ ∙ (let r = length_places es in let n : length (places_of es) + 1 ≡ suc (length es) = omega arith in n)
 
--- the nodes that have labels, and the places that are left
+-- the nodes that have labels, followed by the places that are left, make the whole
 pub record Turns (last : ℕ) (all : Places) (nodes : Listed Node) (places : List (Entry (Option Node))) : Type 0 where
   pub code : labelled_of nodes.entries ++ labelled_from last nodes.given (nodes_back (places_of places)) ≡ labelled_from last 0 (nodes_back all)
   pub few : nodes.given + length places ≤ most_nodes

@@ -22,7 +22,7 @@ module _ {C D : Type 0} (old : C → Move C) (old_output : C → List ℕ) (new 
     ends = λ c r d rel e. subst (λ m. Owes Related measure wide (measure c) (old_output c) m d) e (owes c d rel);
   }
 
-  -- the same for a move that goes wrong if a value is missing
+  -- `Owes` for a move that goes wrong if a value is missing
   pub owes_tried : {X : Type 0} (Related : C → D → Type 0) (measure : C → ℕ) (wide top : ℕ) (o : List ℕ) (x : Option X) (go : X → Move C) (d : D)
       → ((a : X) → x ≡ Some a → Owes Related measure wide top o (go a) d) → Owes Related measure wide top o (tried x go) d
   owes_tried Related measure wide top o None go d f = tt

@@ -39,7 +39,7 @@ statements_left all i s lt is = ap (λ ss. statement_nodes (in_sequence (stateme
 
 -- ---- nodes, statements and expressions
 
--- each expression takes at least one node
+-- each expression needs at least one node
 pub some_nodes : (e : cminor.Expression) → 0 < into_nodes e
 some_nodes (cminor.Constant w) = omega arith
 some_nodes (cminor.Local x) = omega arith
@@ -65,7 +65,7 @@ operands_few : (es : List cminor.Expression) → operands_nodes es ≤ expressio
 operands_few [] = omega arith
 operands_few (e ∷ es) = let f = operand_few e in let g = operands_few es in omega arith
 
--- no more nodes than statements and expressions
+-- a statement needs at most as many nodes as it has statements and expressions
 pub nodes_few : (s : cminor.Statement) → statement_nodes s ≤ statement_size s
 nodes_few cminor.Skip = omega arith
 nodes_few (cminor.Set x e) = let f = into_few e in omega arith

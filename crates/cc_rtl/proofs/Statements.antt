@@ -81,7 +81,7 @@ module _ (nodes : Graph) (count : ℕ) where
     abbrev Hold : (ℕ → ℕ) → Registers → Type 0
     Hold l r = Holds nodes count l r
 
-    -- a last node, after the operands are in registers
+    -- once the operands are in registers, the last node leads to a related configuration
     moves_on : (label m mid exit : ℕ) (r r1 r2 : Registers) (h h' : World) (node : rtl.Node) (c : Config) → Path_to (at label r h) m (at mid r1 h) → nodes mid ≡ Some node → node_move node r1 h ≡ Goes (at exit r2 h') → m ≤ most → Rel c (at exit r2 h') → Moves_on c (at label r h)
     moves_on label m mid exit r r1 r2 h h' node c way stands go few rel = record {
       moves = m + 1;
@@ -103,7 +103,7 @@ module _ (nodes : Graph) (count : ℕ) where
       related = rel;
     }
 
-    -- after a statement that falls through
+    -- after a statement that falls through, the two runs are related
     falls : (κ : Continuation) (l : ℕ → ℕ) (h : World) (r : Registers) (exit : ℕ) (exits : List ℕ) → Goes_on κ exit exits → Hold l r → room κ ≤ most → Low most κ → Rel (config Skip κ l h) (at exit r h)
     falls κ l h r exit exits next holds low turns = record { exit = exit; exits = exits; code = refl; next = next; holds = holds; world = refl; low = omega arith; turns = turns }
 
@@ -141,7 +141,8 @@ module _ (nodes : Graph) (count : ℕ) where
     put_result_holds None v l r holds = holds
     put_result_holds (Some x) v l r holds = λ y lt. put_alike x v v r l y refl (holds y lt)
 
-    -- a word that is dropped goes above the variables
+    -- registers still hold the variables after a word is read; a word that is dropped goes above the
+    -- variables
     taken_holds : (to : Option ℕ) (x v : ℕ) (l : ℕ → ℕ) (r : Registers) → Takes nodes count to x → Hold l r → Hold (put_result l to v) (rtl.put x v r)
     taken_holds None x v l r above holds = λ y lt. put_elsewhere x v r y (omega arith) ∙ holds y lt
     taken_holds (Some z) x v l r same holds = λ y lt. ap (λ k. rtl.put k v r y) same ∙ put_alike z v v r l y refl (holds y lt)

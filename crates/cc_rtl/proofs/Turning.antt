@@ -55,7 +55,7 @@ module _ (t : ℕ → ℕ) (f g : Graph) (more : (l : ℕ) (n : rtl.Node) → f 
   pub finishes_turns : (exit : ℕ) → Finishes f count exit → Finishes g count (t exit)
   finishes_turns exit (r, n, x, y) = (r, t n, more _ _ x, more _ _ y)
 
-  -- the whole code with other labels
+  -- with other labels, the graph is still the code of the body
   pub code_turns : (body : Statement) (entry : ℕ) → IsCodeOf f count body entry → IsCodeOf g count body (t entry)
   code_turns body entry is = record {
     first = t is.first;

@@ -13,13 +13,13 @@ use Rattle.cc_rtl_language.specs.internal.Moves.{Graph, graph_move}
 use Rattle.cc_rtl.specs.internal.Translates.{IsCodeOf}
 use Rattle.cc_rtl.proofs.Statements.{size, measure, Related, generated}
 
--- one more move, and the rest as before
+-- what is kept is still kept if one more move is counted
 keeps_more : (rate n : ℕ) (e : Effect) (w : ℕ) (y z : Outcome Answer) → z ≡ y → Keeps rate n e w y → Keeps rate n e (suc w) z
 keeps_more rate n (Gives a left) w y z same (is, le) = (same ∙ is, (let g : rate * suc w ≤ rate * suc (suc w) = mul-le-mul_left rate (let o : suc w ≤ suc (suc w) = omega arith in o) in omega arith))
 keeps_more rate n (Unfinished o) w y z same (is, le) = (same ∙ is, (let g : rate * suc w ≤ rate * suc (suc w) = mul-le-mul_left rate (let o : suc w ≤ suc (suc w) = omega arith in o) in omega arith))
 keeps_more rate n (Failed o) w y z same kept = tt
 
--- a move before the rest
+-- a run that keeps up still does with one more move before it
 tracks_behind : (meaning : Meaning) (f rate : ℕ) {C : Type 0} (move : C → Move C) (output : C → List ℕ) (start before : List ℕ → World → C) → ((ws : List ℕ) (h : World) → move (before ws h) ≡ Goes (start ws h))
     → Tracks meaning f rate move output start → Tracks meaning f rate move output before
 tracks_behind meaning f rate {C} move output start before goes tracks d below ws h is_call n =

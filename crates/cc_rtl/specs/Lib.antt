@@ -1,4 +1,4 @@
--- How many nodes a function takes.
+-- How many nodes a function needs.
 pub mod Size
 -- Definitions for the proofs.
 pub mod internal

@@ -1,8 +1,8 @@
--- How many nodes a function of Cminor takes in RTL: what `FunctionTooLarge` is about.
+-- How many nodes a function of Cminor needs in RTL: what decides whether `FunctionTooLarge` comes.
 use Rattle.std.specs.Prelude.{ℕ, suc, ◌+◌, List, [], ◌∷◌, Option, Some, None}
 use Rattle.cc_cminor.specs.Cminor.{Expression, Constant, Local, Unary, Binary, Load, Statement, Skip, Set, Store, Call, Read, Write, Sequence, If, Loop, Block, Exit, Return}
 
--- the variable that an expression is
+-- the variable, if the expression is one
 abbrev pub variable_of : Expression → Option ℕ
 variable_of (Constant w) = None
 variable_of (Local x) = Some x
@@ -10,7 +10,7 @@ variable_of (Unary op a) = None
 variable_of (Binary op a b) = None
 variable_of (Load width o a) = None
 
--- how many nodes an operand takes: none if it is a variable
+-- how many nodes an operand needs: none if it is a variable
 abbrev pub kept_by : Option ℕ → (nodes : ℕ) → ℕ
 kept_by None n = n
 kept_by (Some x) n = 0
@@ -44,6 +44,6 @@ statement_nodes (Block a) = statement_nodes a
 statement_nodes (Exit k) = 0
 statement_nodes (Return e) = suc (operand_nodes e)
 
--- the nodes of a function: its entry's nop, its body, and a constant and a return after it
+-- the nodes of a function: its entry's nop, its body, and a constant and a return after the body
 abbrev pub function_nodes : Statement → ℕ
 function_nodes body = statement_nodes body + 3

@@ -1,7 +1,7 @@
 //! From Cminor to RTL, the code of a function as a graph of labelled nodes over pseudo-registers.
 //!
 //! The language is in `cc_rtl_language`, whose items this crate re-exports. `translate` has the call, `size` counts the nodes
-//! that a function takes, and `generate` makes the nodes from the function's Cminor.
+//! that a function needs, and `generate` makes the nodes from the function's Cminor.
 #![tactic(auto)]
 
 mod generate;

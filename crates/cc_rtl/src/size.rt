@@ -1,4 +1,4 @@
-// How many nodes a body takes. They are counted before any node is made: a body is refused exactly if it takes too many.
+// How many nodes a body needs. They are counted before any node is made: a body is refused exactly if it needs too many.
 
 ghost use Rattle.std.specs.Prelude.{◌≡◌, ◌+◌, ◌<◌, ◌≤◌, IsTrue, IsFalse, MatchOption};
 ghost use Rattle.cc_cminor.specs.Code.{expression_of, expressions_of, statement_of, in_sequence};
@@ -27,7 +27,7 @@ fn room_behind(e: &Expression, room: u32) -> Option<u32>
     }
 }
 
-// The same for an operand: a variable takes no node.
+// How much room is left after the nodes of an operand; a variable needs none.
 #[cycle(values)]
 fn room_behind_operand(e: &Expression, room: u32) -> Option<u32>
     ensures { MatchOption result (room < operand_nodes (expression_of e.now)) (λ left. left + operand_nodes (expression_of e.now) ≡ room) }
@@ -38,7 +38,7 @@ fn room_behind_operand(e: &Expression, room: u32) -> Option<u32>
     }
 }
 
-// The same for operands.
+// How much room is left after the nodes of operands.
 fn room_behind_operands(es: &[Expression], room: u32) -> Option<u32>
     ensures { MatchOption result (room < operands_nodes (expressions_of es.now)) (λ left. left + operands_nodes (expressions_of es.now) ≡ room) }
 {
@@ -49,7 +49,7 @@ fn room_behind_operands(es: &[Expression], room: u32) -> Option<u32>
     Some(left)
 }
 
-// The same for a node with one operand, and for one with two.
+// How much room is left after a node with one operand. The next function does the same for two operands.
 fn room_behind_one(e: &Expression, room: u32) -> Option<u32>
     ensures { MatchOption result (room < 1 + operand_nodes (expression_of e.now)) (λ left. left + (1 + operand_nodes (expression_of e.now)) ≡ room) }
 {
@@ -66,7 +66,7 @@ fn room_behind_two(a: &Expression, b: &Expression, room: u32) -> Option<u32>
     room_behind_operand(b, left)
 }
 
-// The same for a statement.
+// How much room is left after the nodes of a statement.
 #[cycle(statements)]
 #[tactic(auto, using(crate::proofs::Sizes::sequence_is))]
 fn room_behind_statement(s: &Statement, room: u32) -> Option<u32>
@@ -91,7 +91,7 @@ fn room_behind_statement(s: &Statement, room: u32) -> Option<u32>
     }
 }
 
-// The same for statements, one after another.
+// How much room is left after the nodes of statements, one after another.
 #[cycle(statements)]
 fn room_behind_statements(all: &[Statement], room: u32) -> Option<u32>
     ensures { MatchOption result (room < statement_nodes (in_sequence (statements_of all.now))) (λ left. left + statement_nodes (in_sequence (statements_of all.now)) ≡ room) }

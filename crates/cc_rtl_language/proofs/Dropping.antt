@@ -1,5 +1,5 @@
 -- A function in which dead nodes became nops keeps up as before: the two runs move in lockstep, and agree on the registers that
--- are live. If the old one goes wrong (a missing quotient or element) nothing is required.
+-- are live. If the old run goes wrong (a missing quotient or element), nothing is required.
 use Rattle.std.proofs.Common.{◌≡◌, ◌≢◌, ℕ, suc, List, [], ◌∷◌, map, refl, sym, ap, ◌∙◌, subst, Bool, true, false, ◌==◌, ◌||◌, not, if◌then◌else◌, IsTrue, arith, inl, Contains}
 use Rattle.std.specs.Prelude.{Option, Some, None}
 use Rattle.std.proofs.lemmas.Bool.Decides.{Decides-eqb}
@@ -34,7 +34,7 @@ module _ (live : Sets) where
     pub world : d.world ≡ c.world
     pub agree : (x : ℕ) → IsTrue (live c.label x) → d.registers x ≡ c.registers x
 
-  -- how one move relates to the other
+  -- if the old run makes the first move and does not go wrong, the new run makes one like it
   abbrev pub Matches : Moving Configuration → Moving Configuration → Type 0
   Matches Fails m = Unit {0}
   Matches (Goes c) (Goes d) = Related c d
@@ -44,7 +44,7 @@ module _ (live : Sets) where
 
   -- ---- one node, from registers that agree on what is live before it
   module _ (own : ℕ → Bool) (r r' : Registers) (h : World) (agree : (x : ℕ) → IsTrue (own x) → r' x ≡ r x) where
-    -- a result is put into both
+    -- if the same result is put into a register in both runs, they stay related
     put_both : (to w w' next : ℕ) (h' : World) → w' ≡ w → ((x : ℕ) → IsTrue (live next x) → to ≢ x → r' x ≡ r x) → Related (at next (put to w r) h') (at next (put to w' r') h')
     put_both to w w' next h' same others = record { label = refl; world = refl; agree = λ x l. go x (to == x) refl l }
       where
@@ -52,14 +52,14 @@ module _ (live : Sets) where
         go x true t l = same
         go x false t l = others x l (λ e. absurd (let u = (Decides-eqb to x).1 e in cc))
 
-    -- a register into which one node puts nothing
+    -- both runs agree on a register that is live after a node, if the node does not set it
     behind_next : (n : Node) (next x : ℕ) → Carries live n own → successors n ≡ next ∷ [] → result n ≢ Some x → IsTrue (live next x) → r' x ≡ r x
     behind_next n next x c one other l = agree x (c.inherited x (subst (λ ss. IsTrue (in_some live ss x)) (sym one) (or_left (live next x) false l)) other)
 
     some_other : (to x : ℕ) → to ≢ x → Some to ≢ Some x
     some_other to x d e = d (let z : Some to ≡ Some x = e in cc)
 
-    -- a node with a result, which can lack a value
+    -- a node whose result can lack a value is matched
     tried_both : (o o' : Option ℕ) (to next : ℕ) → o' ≡ o → ((x : ℕ) → IsTrue (live next x) → to ≢ x → r' x ≡ r x)
         → Matches (tried o (λ word. Goes (at next (put to word r) h))) (tried o' (λ word. Goes (at next (put to word r') h)))
     tried_both o o' to next same others = subst (λ p. Matches (tried o (λ word. Goes (at next (put to word r) h))) (tried p (λ word. Goes (at next (put to word r') h)))) (sym same) (go o)
@@ -89,7 +89,7 @@ module _ (live : Sets) where
     two : (x y : ℕ) (rest : List ℕ) → Contains (y ∷ x ∷ rest) x
     two x y rest = (1, omega arith, refl)
 
-    -- a node that remains
+    -- a node that remains is matched by itself
     kept : (n : Node) → Carries live n own → Matches (node_move n r h) (node_move n r' h)
     kept (Nop next) c = record { label = refl; world = refl; agree = λ x l. behind_next (Nop next) next x c refl (λ e. absurd (let z : None ≡ Some x = e in cc)) l }
     kept (Const to word next) c = put_both to word word next h refl (λ x l d. behind_next (Const to word next) next x c refl (some_other to x d) l)
@@ -131,7 +131,7 @@ module _ (live : Sets) where
         either_way false x l = or_left (live if_nonzero x) (live if_zero x || false) l
     kept (Return from) c = ap (λ w. record { value = w; world = h }) (agree from (c.needed from (one from [])))
 
-    -- a result that nobody reads
+    -- the runs stay related if only the old one gets a result that is not live
     unread : (to w next : ℕ) → IsTrue (not (live next to || false)) → Carries live (Nop next) own → Related (at next (put to w r) h) (at next r' h)
     unread to w next dead c = record { label = refl; world = refl; agree = λ x l. go x (to == x) refl l }
       where
@@ -143,7 +143,7 @@ module _ (live : Sets) where
     unread_tried None to next dead c = tt
     unread_tried (Some w) to next dead c = unread to w next dead c
 
-    -- a dead node that became a nop
+    -- a dead node is matched by its nop
     gone : (n : Node) → IsTrue (is_nop n || is_dead live n) → Carries live (as_nop n) own → Matches (node_move n r h) (node_move (as_nop n) r' h)
     gone (Const to word next) dead c = unread to word next dead c
     gone (Move to from next) dead c = unread to (r from) next dead c

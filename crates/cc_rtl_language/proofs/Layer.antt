@@ -1,5 +1,5 @@
 -- RTL is a layer: outputs grow, and a call passes on the output so far and continues from the output of its answer. So a run that
--- keeps up follows.
+-- keeps up with its function follows it.
 use Rattle.std.proofs.Common.{◌≡◌, ℕ, List, [], ◌∷◌, Option, Some, None, option_map, refl, subst}
 use Rattle.cc_words.specs.Operators.{apply_binary}
 use Rattle.cc_simulation.specs.Behavior.{IsPrefixOf}
@@ -15,7 +15,7 @@ use Rattle.cc_c_semantics.specs.declared.mode.Mode.{Mode}
 use Rattle.cc_rtl_language.specs.Pair.{KeepsUp, FollowsFunction}
 use Rattle.cc_rtl_language.specs.internal.Moves.{Graph, graph_move}
 
--- what a move preserves of the output so far
+-- a move keeps to the output so far: `IsLayer` for this one move
 abbrev Layered : (o : List ℕ) → Move Configuration → Type 0
 Layered o (Goes d) = IsPrefixOf o (rtl_output d)
 Layered o (Calls q resume) = (q.world.output ≡ o) × ((a : Answer) → rtl_output (resume a) ≡ a.world.output)
@@ -54,7 +54,7 @@ rtl_layer nodes = record {
     at_label : (c : Configuration) → Layered (rtl_output c) (graph_move nodes c)
     at_label c = tried_case (rtl_output c) (nodes c.label) _ (λ n. layered n c.registers c.world)
 
--- a run that keeps up, at whatever rate, follows
+-- a run that keeps up with its function, at whatever rate, follows it
 pub follows_of : (mode : Mode) (unit : List External) (f : ℕ) (r : Rtl) → KeepsUp mode unit f r → FollowsFunction mode unit f r
 follows_of mode unit f r (rate, keeps) meaning is opened below ws h call =
     tracks_follow meaning (graph_move (node_at r.nodes)) rtl_output (rtl_layer (node_at r.nodes)) f rate (rtl_start r) (keeps meaning is) opened below ws h call

@@ -15,7 +15,7 @@ use Rattle.cc_rtl_language.proofs.Places.{same_test, other_test}
 abbrev pub Which : Type 0
 Which = (label : ℕ) → Node → Bool
 
--- the node or its nop
+-- the nop of the node if b, else the node
 abbrev pub turned : Bool → Node → Node
 turned b n = if b then as_nop n else n
 
@@ -41,7 +41,7 @@ none_turned which (m ∷ ns) l e = go (m.label == l) e (none_turned which ns l)
     go true f rest = absurd cc
     go false f rest = rest f
 
--- the node at a label now was turned, or not, from the one that was there
+-- the node at a label is now the one that was there, or its nop
 pub turned_from : (which : Which) (ns : List Labelled) (l : ℕ) (n : Node) → node_at (with_nops which ns) l ≡ Some n → (m : Node) × (node_at ns l ≡ Some m) × (n ≡ turned (which l m) m)
 turned_from which ns l n e = go (node_at ns l) refl
   where
@@ -180,7 +180,7 @@ numbered_turned which from (n ∷ ns) a = (a.0, numbered_turned which (suc from)
 
 -- ---- as the code makes them
 
--- another item under a label, which is the nop of the old one
+-- to put a node's nop under its label is to turn that node
 pub turn_one : (es : List (Entry code.Node)) (l : ℕ) (x : code.Node) → Ascend (labelled_of es) → option_map as_nop (node_at (labelled_of es) l) ≡ Some (node_of x) → labelled_of (with_item l x es) ≡ with_nops (this l) (labelled_of es)
 turn_one [] l x ascend h = refl
 turn_one (e ∷ es) l x ascend h =
@@ -215,12 +215,12 @@ turn_none (n ∷ ns) l ascend h =
           ap (λ b. record { label = n.label; node = turned b n.node } ∷ with_nops (this l) ns) u ∙ ap (λ (ms : List Labelled). n ∷ ms) (turn_none ns l ascend.1 f)
     ] refl h
 
--- what holds of a node and its nop, for the node at a label
+-- what matches a node and its nop also matches the node at a label and its nop
 pub nop_found : (r : Option ℕ) (o : Option Node) (n : Node) → o ≡ Some n → MatchOption r (as_nop n ≡ n) (λ next. as_nop n ≡ Nop next) → MatchOption r (option_map as_nop o ≡ o) (λ next. option_map as_nop o ≡ Some (Nop next))
 nop_found None o n e m = ap (option_map as_nop) e ∙ (ap (λ (x : Node). Some x) m ∙ sym e)
 nop_found (Some next) o n e m = ap (option_map as_nop) e ∙ ap (λ (x : Node). Some x) m
 
--- one more label
+-- to turn the node at one more label is to turn those at all the labels so far
 pub turn_more : (start now after : List Labelled) (labels : List ℕ) (i : ℕ) → now ≡ with_nops (these (take i labels)) start → after ≡ with_nops (this (get_or labels i 0)) now → i < length labels → after ≡ with_nops (these (take (i + 1) labels)) start
 turn_more start now after labels i so_far is h =
     is ∙ (ap (with_nops (this (get_or labels i 0))) so_far ∙ (one_more (take i labels) (get_or labels i 0) start ∙ ap (λ ls. with_nops (these ls) start) (sym (take_more labels i 0 h))))

@@ -35,7 +35,7 @@ pub length_labelled : (ns : List (Entry Node)) → length (labelled_of ns) ≡ l
 length_labelled [] = refl
 length_labelled (n ∷ ns) = ap suc (length_labelled ns)
 
--- what is under a label
+-- the node at a label is the one that the list has under that label
 pub node_of_label : (es : List (Entry Node)) (l : ℕ) → node_at (labelled_of es) l ≡ option_map node_of (item_at l es)
 node_of_label [] l = refl
 node_of_label (e ∷ es) l =
@@ -152,7 +152,7 @@ behind_first l [] i n below ascend e = absurd cc
 behind_first l (m ∷ ns) zero n below ascend e = subst (λ (x : rtl.Labelled). l < x.label) (same_Some m n e) below
 behind_first l (m ∷ ns) (suc i) n below ascend e = behind_first l ns i n (above_rest l m ns below ascend.0) ascend.1 e
 
--- the node at a position is that of its label, and its position is the label's
+-- the node at a position is the node at its label, and the position is that of the label
 pub node_of_position : (ns : List rtl.Labelled) → Ascend ns → (i : ℕ) (n : rtl.Labelled) → slice_get ns i ≡ Some n → (node_at ns n.label ≡ Some n.node) × (position_of ns n.label ≡ i)
 node_of_position [] ascend i n e = absurd cc
 node_of_position (m ∷ ns) ascend zero n e =

@@ -20,7 +20,7 @@ reads (Write from next) = from ∷ []
 reads (Branch from _ _) = from ∷ []
 reads (Return from) = from ∷ []
 
--- the register of a pure node, which only puts a word into it, unless it goes wrong
+-- the register of a pure node, one that only puts a word into this register, unless the node goes wrong
 abbrev pub pure_result : Node → Option ℕ
 pure_result (Const to word next) = Some to
 pure_result (Move to from next) = Some to
@@ -54,7 +54,7 @@ pub record Carries (live : Sets) (node : Node) (own : ℕ → Bool) : Type 0 whe
   pub needed : (r : ℕ) → Contains (reads node) r → IsTrue (own r)
   pub inherited : (r : ℕ) → IsTrue (live_behind live node r) → result node ≢ Some r → IsTrue (own r)
 
--- this holds of each node and the set for its label
+-- each node and the set for its label satisfy `Carries`
 abbrev pub AreLive : List Labelled → Sets → Type 0
 AreLive nodes live = (label : ℕ) (node : Node) → node_at nodes label ≡ Some node → Carries live node (live label)
 
@@ -77,7 +77,7 @@ as_nop (Binary operator to left right next) = Nop next
 as_nop (Load width object to index next) = Nop next
 as_nop node = node
 
--- A nop is pure too, and has no result.
+-- Whether a node is a nop, which is pure too and has no result.
 abbrev pub is_nop : Node → Bool
 is_nop (Nop next) = true
 is_nop node = false
@@ -88,8 +88,8 @@ with_nops which [] = []
 with_nops which (n ∷ ns) = record { label = n.label; node = if which n.label n.node then as_nop n.node else n.node } ∷ with_nops which ns
 
 -- These nodes may become nops: some live sets of the code with the nops show that each of them is dead. All are considered
--- together, so that nodes may go that only read one another. Live sets of the code as it is will do too, because a nop needs no
--- more than the node did.
+-- together, so that nodes that only read one another may become nops. Live sets of the code as it is will do too, because a nop
+-- needs no more than its node does.
 pub record MayBecomeNops (nodes : List Labelled) (which : (label : ℕ) → Node → Bool) : Type 0 where
   pub live : Sets
   pub are_live : AreLive (with_nops which nodes) live
@@ -100,7 +100,7 @@ abbrev pub among : List ℕ → (label : ℕ) → Bool
 among [] label = false
 among (l ∷ ls) label = l == label || among ls label
 
--- the function with the nodes with these labels turned into nops
+-- the function, with nops in place of the nodes with these labels
 abbrev pub without : (labels : List ℕ) → Rtl → Rtl
 without labels rtl = record rtl { nodes = with_nops (λ label node. among labels label) rtl.nodes }
 

@@ -26,7 +26,7 @@ pub record Pair : Type 0 where
 abbrev pub tree_of : Pair → List External
 tree_of p = (source p.unit).externals
 
--- a call is that of a function of the unit, with as many arguments as this function has parameters
+-- if the node is a call, it calls a function of the unit, with as many arguments as this function has parameters
 abbrev pub IsCallOf : List External → Node → Type 0
 IsCallOf unit (Nop next) = Unit {0}
 IsCallOf unit (Const to word next) = Unit {0}
@@ -41,7 +41,7 @@ IsCallOf unit (Write from next) = Unit {0}
 IsCallOf unit (Branch from first second) = Unit {0}
 IsCallOf unit (Return from) = Unit {0}
 
--- each call among the nodes is such a call
+-- each call among the nodes satisfies `IsCallOf`
 abbrev pub AreCalls : List External → Rtl → Type 0
 AreCalls unit rtl = (label : ℕ) (node : Node) → node_at rtl.nodes label ≡ Some node → IsCallOf unit node
 
@@ -53,7 +53,7 @@ HasParameters unit f rtl = slice_get (arities unit) f ≡ Some rtl.parameters
 abbrev pub KeepsUp : Mode → List External → (function : ℕ) → Rtl → Type 0
 KeepsUp mode unit f rtl = (rate : ℕ) × ((meaning : Meaning) → IsMeaning mode unit meaning → Tracks meaning f rate (rtl_move rtl) rtl_output (rtl_start rtl))
 
--- at each number of open calls the run follows the function's body
+-- at each number of open calls, the run follows the function's body
 abbrev pub FollowsFunction : Mode → List External → (function : ℕ) → Rtl → Type 0
 FollowsFunction mode unit f rtl =
     (meaning : Meaning) → IsMeaning mode unit meaning → (opened : ℕ) → opened < most_open → (ws : List ℕ) (h : World) → IsCall meaning f ws h

@@ -2,7 +2,7 @@
 use Rattle.std.specs.Prelude.{◌≡◌, ℕ, suc, List, [], ◌∷◌, map, ◌==◌, if◌then◌else◌}
 use Rattle.cc_rtl_language.specs.Rtl.{Labelled, successors}
 
--- the labels are consecutive numbers; if they begin with 0 they are the positions
+-- the labels are consecutive numbers; if they begin with 0, they are the positions
 abbrev pub AreNumbered : (from : ℕ) → List Labelled → Type 0
 AreNumbered from [] = Unit {0}
 AreNumbered from (n ∷ ns) = (n.label ≡ from) × AreNumbered (suc from) ns

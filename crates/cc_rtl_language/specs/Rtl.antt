@@ -62,7 +62,7 @@ successors (Return from) = []
 abbrev pub most_nodes : ℕ
 most_nodes = 4096
 
--- the labels ascend
+-- the labels ascend: each is below the first one after it
 abbrev pub IsBelowFirst : (label : ℕ) → List Labelled → Type 0
 IsBelowFirst label [] = Unit {0}
 IsBelowFirst label (n ∷ ns) = label < n.label
@@ -71,7 +71,7 @@ abbrev pub Ascend : List Labelled → Type 0
 Ascend [] = Unit {0}
 Ascend (n ∷ ns) = IsBelowFirst n.label ns × Ascend ns
 
--- a function's labels ascend, each node leads to nodes, and the first is a nop that no node leads to; the code begins at the node
+-- a function's labels ascend, each node leads to nodes, and the entry is a nop that no node leads to; the code begins at the node
 -- after that nop
 pub record IsRtl (rtl : Rtl) : Type 0 where
   pub few : length rtl.nodes ≤ most_nodes
@@ -94,11 +94,11 @@ pub record Configuration : Type 0 where
 abbrev pub at : (label : ℕ) → Registers → World → Configuration
 at label registers world = record { label = label; registers = registers; world = world }
 
--- a word is put into a register
+-- the registers after a word is put into one of them
 abbrev pub put : (to word : ℕ) → Registers → Registers
 put to word r x = if to == x then word else r x
 
--- a result is put into its register, if it has one
+-- the registers after a result is put into its register, if it has one
 abbrev pub put_result : (to : Option ℕ) → (word : ℕ) → Registers → Registers
 put_result None word r = r
 put_result (Some to) word r = put to word r
@@ -111,7 +111,7 @@ answered to next r a = at next (put_result to a.value r) a.world
 abbrev pub branched : (word if_nonzero if_zero : ℕ) → ℕ
 branched word if_nonzero if_zero = if word == 0 then if_zero else if_nonzero
 
--- one node is one move of the run
+-- what a node does: one move of the run
 abbrev pub node_move : Node → Registers → World → Moving Configuration
 node_move (Nop next) r h = Goes (at next r h)
 node_move (Const to word next) r h = Goes (at next (put to word r) h)
@@ -130,7 +130,7 @@ node_move (Return from) r h = Returns (record { value = r from; world = h })
 abbrev pub rtl_move : Rtl → Configuration → Moving Configuration
 rtl_move rtl c = tried (node_at rtl.nodes c.label) (λ node. node_move node c.registers c.world)
 
--- what is written so far
+-- the output so far
 abbrev pub rtl_output : Configuration → List ℕ
 rtl_output c = c.world.output
 

@@ -9,7 +9,7 @@ ghost use Rattle.cc_rtl_language.specs.Live.{as_nop, with_nops, among};
 use crate::node::Node;
 use cc_instr_list::InstrList;
 
-/// Turns those of the nodes with these labels that are pure into nops.
+/// Turns the nodes with these labels into nops, if they are pure.
 pub fn make_all_nops(nodes: &mut InstrList<Node>, labels: &[u32])
     requires ascend { Ascend (labelled_of nodes.old.entries) }
     requires there { All (λ l. IsSome (node_at (labelled_of nodes.old.entries) l)) labels.now }

@@ -8,7 +8,7 @@
 //! - `positions`: a function as the graph for dataflow.
 //! - `laws`: what holds of every function.
 //!
-//! `cc_rtl` makes RTL of Cminor; a crate that works on RTL does not have to wait for it.
+//! `cc_rtl` makes RTL from Cminor; a crate that works on RTL does not have to wait for it.
 #![tactic(auto)]
 
 mod dead;

@@ -34,7 +34,7 @@ pub enum Node {
         right: u32,
         next: u32,
     },
-    /// Takes an element of this width of an object; goes wrong if there is no such element, or the object's elements have another
+    /// Reads an element of this width of an object; goes wrong if there is no such element, or the object's elements have another
     /// width.
     Load {
         width: Width,
@@ -59,7 +59,7 @@ pub enum Node {
         to: Option<u32>,
         next: u32,
     },
-    /// Takes the next word of the input, or 0 if none is left.
+    /// Reads the next word of the input, or 0 if none is left.
     Read {
         to: u32,
         next: u32,
@@ -69,7 +69,7 @@ pub enum Node {
         from: u32,
         next: u32,
     },
-    /// Continues at one label if the word is not 0, at the other if it is.
+    /// Continues at one label if the word is not 0, at the other if it is 0.
     Branch {
         from: u32,
         if_nonzero: u32,

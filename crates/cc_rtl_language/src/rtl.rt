@@ -1,8 +1,7 @@
 // A function of RTL: its nodes, in an instruction list.
 //
 // The list's labels are the nodes' labels. They are the numbers from 0 on, and ascend along the code as it was made. So a label
-// is also its node's position, and a node is found in constant time. An edit puts another node in its place, under the same
-// label.
+// is also its node's position, and a node is found in constant time. An edit replaces a node with another, under the same label.
 
 ghost use Rattle.std.specs.Prelude.{◌≡◌, ◌<◌, ◌≤◌, length, slice_get, Some, All, IsSome, IfOk, MatchOption};
 ghost use Rattle.cc_rtl_language.specs.Rtl.{IsRtl, most_nodes, node_at};
@@ -19,8 +18,8 @@ use std::alloc::{AllocError, Global};
 use std::marker::Model;
 
 /// A function: how many parameters it has (the first pseudo-registers), the label of the node that it begins with, and its nodes.
-/// There are at most 4,096 nodes, whose labels are the numbers from 0 on. Each node leads to nodes, and the first is a nop that
-/// no node leads to. Clauses see these parts.
+/// There are at most 4,096 nodes, whose labels are the numbers from 0 on. Each node leads to nodes, and the one at the entry is a
+/// nop that no node leads to. Clauses see these parts.
 pub struct Rtl {
     parameters: u32,
     entry: u32,
@@ -120,14 +119,14 @@ impl Rtl {
         label as usize
     }
 
-    /// Returns the graph of the nodes by their positions, for `cc_flow`. `AllocError` if memory runs out.
+    /// Returns the graph of the nodes by their positions, for `cc_flow`. Fails with `AllocError` if memory runs out.
     pub fn graph(&self, alloc: Global) -> Result<Graph, AllocError>
         ensures { IfOk result (λ graph. graph ≡ graph_of self.now.nodes) }
     {
         graph_of_nodes(alloc, self)
     }
 
-    // Turns those of the nodes with these labels that are pure into nops. Takes no memory.
+    // Turns the nodes with these labels into nops, if they are pure. Takes no memory.
     pub(crate) fn make_nops(&mut self, labels: &[u32])
         requires { All (λ l. IsSome (node_at self.old.nodes l)) labels.now }
         ensures { self.new ≡ without labels.now self.old }

@@ -180,7 +180,7 @@ fn of_unit(alloc: Global, unit: &Unit, run: Run<'_>) -> Result<Option<WrongRun>,
 
 /// The report about a text's run on the words of an input, within `steps` steps, if `interpret` answers that it goes wrong for a
 /// cause: the place, the values and the function, for example `index 3 is outside a[3], in main`. The run is repeated to see
-/// them. There is no report if it does not go wrong for that cause.
+/// them. There is no report if the run does not go wrong for that cause.
 ///
 /// `AllocError` if memory for it runs out.
 pub fn of_wrong(
@@ -199,7 +199,7 @@ pub fn of_wrong(
     }
 }
 
-/// The same report, together with the calls that were open.
+/// The report of `of_wrong`, together with the calls that were open.
 pub fn of_wrong_run(
     alloc: Global,
     text: &[u8],

@@ -41,7 +41,7 @@ goes_before image words n m le going =
     either ((machine_behavior image words n).outcome ≡ Going) (going_or_not (machine_behavior image words n).outcome)
     (λ other. sym (ap (λ (b : Behavior). b.outcome) (stays image words n m le other)) ∙ going)
 
--- a run that is going after `done` instructions is going within any number below one more
+-- a run that is going after `done` instructions, and within any smaller number, is going within any number below `done + 1`
 pub goes_until : (image : Image) (words : List ℕ) (done : ℕ) → ((n : ℕ) → n < done → (machine_behavior image words n).outcome ≡ Going) → (machine_behavior image words done).outcome ≡ Going
     → (n : ℕ) → n < done + 1 → (machine_behavior image words n).outcome ≡ Going
 goes_until image words done before here n less = goes_before image words n done (omega arith) here
@@ -62,7 +62,7 @@ counted image words steps done left parts before (inr ended) =
       bound = λ going. absurd (ended (sym (ap (λ (b : Behavior). b.outcome) same) ∙ going));
     }
 
--- the machine after a count has the output and the result of the run
+-- once a machine has executed exactly the counted number of instructions, its output and result are those of the run
 pub whole : (image : Image) (words : List ℕ) (steps done left : ℕ) (m : Simulation) (outcome : MachineOutcome) → done + left ≡ steps → IsCount image steps words done → IsAfter image words done m
     → outcome ≡ (machine_behavior image words done).outcome → (r : CountedRun) → r.run.output.items ≡ m.output → (r.run.outcome ≡ outcome) × (r.executed ≡ Some (steps - left))
     → IsCounted image true steps words r
@@ -77,7 +77,7 @@ whole image words steps done left m outcome parts count after told r output is =
       count = subst (λ (e : Option ℕ). IfSome e (IsCount image steps words)) (sym is.1) (subst (λ (n : ℕ). IsCount image steps words n) number count);
     }
 
--- a property of an answer follows from two others
+-- if `P` and `Q` imply `R`, and a result's answer has `P` and `Q`, then it has `R`
 pub by_both : {A E : Type 0} (P Q R : A → Type 0) → ((a : A) → P a → Q a → R a) → (r : Result A E) → IfOk r P → IfOk r Q → IfOk r R
 by_both P Q R step (Ok a) p q = step a p q
 by_both P Q R step (Err e) p q = tt

@@ -6,7 +6,7 @@ use Rattle.cc_rv32.specs.Machine.{machine_behavior}
 use Rattle.cc_answers.specs.Run.{IsRunOf}
 use Rattle.cc_runs.specs.declared.count.CountedRun.{CountedRun}
 
--- the least number of instructions with the result that the run has within the bound; the bound, if the run is still going then
+-- the least number of instructions with the result that the run has within the bound, or the bound if the run is going then
 pub record IsCount (image : Image) (steps : ℕ) (words : List ℕ) (count : ℕ) : Type 0 where
   pub within : count ≤ steps
   -- within the count the run has the same output and result as within the bound

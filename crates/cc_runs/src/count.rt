@@ -1,7 +1,7 @@
 // Counts the instructions of a run.
 //
-// A machine says how far its run has come, but not after how many instructions. So one machine goes on in slices, up to the
-// slice in which its run ends. A second machine first runs up to the beginning of that slice, and then goes on instruction by
+// A machine says how far its run has come, but not after how many instructions. So one machine runs in slices, up to the slice
+// in which its run ends. A second machine first runs up to the beginning of that slice, and then goes on instruction by
 // instruction.
 
 ghost use Rattle.std.specs.Prelude.{◌≡◌, ◌≤◌, true, IfOk, Some};
@@ -15,7 +15,7 @@ use cc_rv32::machine::Machine;
 use cc_rv32::outcome::MachineOutcome;
 use std::alloc::{AllocError, Global};
 
-// The first machine executes this many instructions between two looks.
+// The first machine executes this many instructions before it is asked again whether its run has ended.
 const SLICE: u64 = 65_536;
 
 /// What an image has written, how its run ended, and after how many instructions, if that was asked for.
@@ -66,8 +66,8 @@ fn run_so_far(
     }
 }
 
-/// What an image does on the input words within `steps` instructions, and the least number of instructions with that result;
-/// the bound, if the run is still going then. Fails with `AllocError` if memory was refused during the run.
+/// What an image does on the input words within `steps` instructions, and the least number of instructions with that result,
+/// or the bound, if the run is still going then. Fails with `AllocError` if memory was refused during the run.
 pub fn run_counted(
     alloc: Global,
     image: &Image,

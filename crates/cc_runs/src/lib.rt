@@ -1,9 +1,8 @@
-//! What an image does on input words, and the number of instructions that it takes; and how input words are read from a line of
-//! text.
+//! What an image does on input words, and how many instructions it executes; and how input words are read from a line of text.
 //!
 //! `count` runs an image and counts, `words` reads the words of a line, and `written` writes the answer of a run. The crate
-//! knows no library, so it serves for running a library's unit and for running a text. It exports `CountedRun`, `run_counted`,
-//! `run_words`, `words_in`, `write_counted_run`, and the definitions that their contracts cite (`specs/`).
+//! does not know libraries, so it is used both to run a library's unit and to run a text. It exports `CountedRun`,
+//! `run_counted`, `run_words`, `words_in`, `write_counted_run`, and the definitions that their contracts cite (`specs/`).
 #![tactic(auto)]
 
 mod count;

@@ -1,6 +1,6 @@
 -- How the simulator is shown to be the machine. The code is decoded once into flat operations. Each operation does what its
--- instruction does (Flats, Simulates), many of them do what a run does (Running), and a service call ends such a stretch (Serving,
--- Advancing).
+-- instruction does (Flats, Simulates), a sequence of operations does what a run does (Running), and a service call ends such a
+-- sequence (Serving, Advancing).
 -- encoding and decoding undo each other
 pub mod RoundTrip
 -- what is true of every flat operation

@@ -1,5 +1,5 @@
--- Decoding the word of an instruction gives the instruction, and encoding the instruction of a word gives the word. If a word is
--- made of fields, its fields are these; this is linear arithmetic. The table then computes.
+-- Decoding the word of an instruction yields the instruction, and encoding the instruction of a word yields the word. If a word
+-- is made of some fields, they are its fields: this is linear arithmetic. The rest follows from the table by computation.
 use Rattle.std.proofs.Common.{◌≡◌, ℕ, ◌+◌, ◌*◌, ◌%◌, ◌^◌, ◌<◌, Some, refl, ap, ◌∙◌, lit<, arith}
 use Rattle.std.proofs.lemmas.Bool.Decides.{nat_tests}
 use Rattle.cc_rv32.specs.declared.instr.Instr.{Instr}
@@ -173,7 +173,7 @@ branch_operation_below Bge = lit< tt
 branch_operation_below Bltu = lit< tt
 branch_operation_below Bgeu = lit< tt
 
--- a word in range, cut off and extended with its sign, is the word again
+-- a word in range, truncated and sign-extended, is the word again
 sign_extended_immediate : (i : ℕ) → IsImmediate i → sign_extended 12 (i % 4096) ≡ i
 sign_extended_immediate i h = grind (arith, nat_tests)
 
@@ -183,7 +183,7 @@ sign_extended_branch i h = grind (arith, nat_tests)
 sign_extended_jump : (i : ℕ) → IsJumpOffset i → sign_extended 21 (i % 2097152) ≡ i
 sign_extended_jump i h = grind (arith, nat_tests)
 
--- the fields of a word with an immediate of twelve bits
+-- the fields of a word with a twelve-bit immediate
 record HasImmediate (w o d f3 s1 i : ℕ) : Type 0 where
   opcode_is : opcode w ≡ o
   rd_is : rd w ≡ d
@@ -263,7 +263,7 @@ ecall_instruction : instruction_of 0x73 ≡ Some Ecall
 unfolding instruction_of
 ecall_instruction = refl
 
--- decoding the word of an instruction gives the instruction
+-- decoding the word of an instruction yields the instruction
 pub decoded : (i : Instr) → IsEncodable i → instruction_of (encoding_of i) ≡ Some i
 unfolding encoding_of
 decoded (Op o d s1 s2) h = operation_instruction _ o d s1 s2 (HasFields-fields_word 0x33 d _ s1 s2 _ (lit< tt) h.0 (operation_below o).0 h.1 h.2 (operation_below o).1)

@@ -1,4 +1,4 @@
-// The instruction of a word: its opcode decides the form, funct3 and funct7 what it does.
+// The instruction of a word: the opcode decides the form, and funct3 and funct7 decide what the instruction does.
 
 ghost use Rattle.std.specs.Prelude.{◌≡◌, ◌<◌, ◌^◌, IfSome, Some, ◌+◌, ◌-◌, ◌%◌, ◌≢◌, ◌⊎◌, nat_lt, if◌then◌else◌};
 ghost use Rattle.cc_rv32.specs.Fields as fields;

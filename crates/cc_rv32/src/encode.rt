@@ -9,8 +9,8 @@ use crate::instr::{
 };
 use crate::operand::{BranchOffset, Immediate, JumpOffset, Register, ShiftCount, UpperImmediate};
 
-/// Returns the word of the instruction, by the table of the RISC-V unprivileged ISA. Every instruction has one, and `decode` turns it into
-/// the instruction again. Takes no memory.
+/// Returns the word of the instruction, by the table of the RISC-V unprivileged ISA. Every instruction has a word, and `decode` turns the
+/// word back into the instruction. Takes no memory.
 
 pub fn encode(instr: Instr) -> u32
     ensures table { result ≡ encoding_of instr }

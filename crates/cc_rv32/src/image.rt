@@ -54,7 +54,7 @@ impl Code {
         self.words.as_slice()
     }
 
-    /// Gives up the code and returns its words.
+    /// Consumes the code and returns its words.
     pub fn into_words(self) -> Vec<u32>
         ensures { result.items ≡ self }
     {
@@ -105,7 +105,7 @@ impl Globals {
         self.words.as_slice()
     }
 
-    /// Gives up the globals and returns their words.
+    /// Consumes the globals and returns their words.
     pub fn into_words(self) -> Vec<u32>
         ensures { result.items ≡ self }
     {

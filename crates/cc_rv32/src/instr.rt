@@ -180,15 +180,15 @@ impl ShiftOperation {
 /// What a load reads (opcode LOAD).
 #[derive(Clone, Copy)]
 pub enum LoadOperation {
-    /// A byte, extended with its sign.
+    /// A byte, sign-extended.
     Lb,
-    /// A half word, extended with its sign.
+    /// A half word, sign-extended.
     Lh,
     /// A word.
     Lw,
-    /// A byte, extended with zeros.
+    /// A byte, zero-extended.
     Lbu,
-    /// A half word, extended with zeros.
+    /// A half word, zero-extended.
     Lhu,
 }
 
@@ -291,7 +291,7 @@ pub enum Instr {
         rs1: Register,
         count: ShiftCount,
     },
-    /// `lw x5, 8(x2)`: `rd` gets what the memory has at `rs1` + offset.
+    /// `lw x5, 8(x2)`: `rd` gets what memory holds at `rs1` + offset.
     Load {
         operation: LoadOperation,
         rd: Register,

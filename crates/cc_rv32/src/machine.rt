@@ -37,9 +37,9 @@ impl Model for Machine {
 }
 
 impl Machine {
-    /// Makes a machine with the image in place, before its first instruction. The program counter is 0x00010000, `x2` is
-    /// 0x00800000, all other registers and the stack are 0, and these words are the input. Fails with 40 (OutOfMemory) if memory
-    /// for them, or for the 2.25 MiB of globals and stack, was refused.
+    /// Makes a machine with the image in place, before its first instruction. The program counter is 0x00010000, `x2` is 0x00800000, all
+    /// other registers and the stack are 0, and these words are the input. Fails with 40 (OutOfMemory) if memory for these words, or for
+    /// the 2.25 MiB of globals and stack, was refused.
     pub fn new(alloc: Global, image: &Image, input: &[u32]) -> Result<Self, MachineFault>
         ensures start { IfOk result (λ m. IsAfter image.now input.now 0 m) }
     {
@@ -62,7 +62,7 @@ impl Machine {
 
     /// Executes this many instructions, or fewer if the machine exits or traps, and returns the outcome of the run so far. To run `a` and
     /// then `b` instructions is the same as to run `a + b`. Fails with 40 (OutOfMemory) only if an instruction writes a word and the output
-    /// could not grow; the instructions before that one have been executed then.
+    /// could not grow; then the instructions before that one have been executed.
     pub fn run(&mut self, steps: u64) -> Result<MachineOutcome, MachineFault>
         ensures code { self.new.code ≡ self.old.code }
         ensures run { IfOk result (λ outcome. shown_run self.new ≡ machine_run self.old.code steps (shown_run self.old)) }

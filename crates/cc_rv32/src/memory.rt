@@ -47,7 +47,7 @@ pub(crate) fn load_word(globals: &[u32], stack: &[u32], address: u32) -> Option<
     word(globals, stack, address)
 }
 
-/// The half word at an even address, extended with zeros.
+/// The half word at an even address, zero-extended.
 #[inline(always)]
 pub(crate) fn load_half(globals: &[u32], stack: &[u32], address: u32) -> Option<u32>
     requires globals { length globals.now ≡ 65536 }
@@ -61,7 +61,7 @@ pub(crate) fn load_half(globals: &[u32], stack: &[u32], address: u32) -> Option<
     Some((word >> (8 * (address % 4))) & 0xffff)
 }
 
-/// The byte at an address, extended with zeros.
+/// The byte at an address, zero-extended.
 #[inline(always)]
 pub(crate) fn load_byte(globals: &[u32], stack: &[u32], address: u32) -> Option<u32>
     requires globals { length globals.now ≡ 65536 }
@@ -72,7 +72,7 @@ pub(crate) fn load_byte(globals: &[u32], stack: &[u32], address: u32) -> Option<
     Some((word >> (8 * (address % 4))) & 0xff)
 }
 
-/// Writes the word that has the byte at this address; a trap if no memory is there.
+/// Writes the word that has the byte at this address; traps if no memory is there.
 #[inline(always)]
 fn set_word(globals: &mut [u32], stack: &mut [u32], address: u32, word: u32) -> Next
     requires globals { length globals.old ≡ 65536 }
@@ -92,7 +92,7 @@ fn set_word(globals: &mut [u32], stack: &mut [u32], address: u32, word: u32) -> 
     Next::Trap
 }
 
-/// Writes the word at an address that is a multiple of 4; a trap at any other address.
+/// Writes the word at an address that is a multiple of 4; traps at any other address.
 #[inline(always)]
 pub(crate) fn store_word(globals: &mut [u32], stack: &mut [u32], address: u32, word: u32) -> Next
     requires globals { length globals.old ≡ 65536 }
@@ -105,7 +105,7 @@ pub(crate) fn store_word(globals: &mut [u32], stack: &mut [u32], address: u32, w
     set_word(globals, stack, address, word)
 }
 
-/// Writes the low half of the word at an even address; a trap at any other address.
+/// Writes the low half of the word at an even address; traps at any other address.
 #[inline(always)]
 pub(crate) fn store_half(globals: &mut [u32], stack: &mut [u32], address: u32, half: u32) -> Next
     requires globals { length globals.old ≡ 65536 }

@@ -7,7 +7,7 @@ pub enum MachineOutcome {
     Going,
     /// The program has exited with this word.
     Exited(u32),
-    /// The program has come to a word that is not an instruction, an access that is not allowed, or a service that does not
+    /// The program has reached a word that is not an instruction, an access that is not allowed, or a service that does not
     /// exist.
     Trapped,
 }

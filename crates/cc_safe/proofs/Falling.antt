@@ -1,4 +1,5 @@
--- If the declarations of a unit fall, so do its functions.
+-- If the functions that a unit's declarations define call only functions of lower ranks, so do the unit's
+-- functions.
 use Rattle.std.proofs.Common.{ℕ, List, [], ◌∷◌}
 use Rattle.std.specs.List.{AllByRecursion}
 use Rattle.cc_ast.specs.Erase.{external_tree, external_trees}

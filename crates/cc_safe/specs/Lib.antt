@@ -1,4 +1,4 @@
--- when a program can't go wrong at all
+-- when a program cannot go wrong at all
 pub mod Safe
--- no promise depends on these
+-- definitions that no promise depends on
 pub mod internal

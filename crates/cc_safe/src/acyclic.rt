@@ -1,6 +1,6 @@
 // Whether the calls of a unit have no cycle.
 //
-// All ranks begin as 0. In each round, the rank of each function that calls one of the same or a higher rank rises by one;
+// All ranks are 0 at first. In each round, the rank of each function that calls one of the same or a higher rank rises by one;
 // there is one more round than a unit can have functions. If there is no cycle, the ranks then fall from call to call. No proof
 // depends on how they were found: the answer comes from checking the ranks at the end.
 

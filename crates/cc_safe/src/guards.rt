@@ -27,7 +27,7 @@ fn needs_guard(alloc: Global, unit: &Arc<TypedUnit>, function: usize) -> Result<
     Ok(!none?)
 }
 
-/// The functions of a unit that need a guard, by their numbers. Err: memory ran out.
+/// The functions of a unit that need a guard, by their numbers. `Err` if memory runs out.
 pub(crate) fn guarded(alloc: Global, unit: &Arc<TypedUnit>) -> Result<Vec<usize>, AllocError>
     ensures { IfOk result (λ found. found.items ≡ [] → NoneNeedsGuard (source (arc_value unit.now)).externals) }
 {

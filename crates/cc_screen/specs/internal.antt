@@ -1,2 +1,2 @@
--- How a terminal is shown the bytes that are printed.
+-- How printed bytes are shown on a terminal.
 pub mod Shown

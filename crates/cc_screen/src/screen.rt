@@ -13,12 +13,12 @@ use std::io::{self, Write};
 pub struct Screen<W: Drop> {
     writer: W,
     is_terminal: bool,
-    // The last byte that was taken; 0 at first.
+    // The last byte that was shown; 0 at first.
     last: u8,
 }
 
-// Whether a terminal takes a byte as a control character. It does so for a byte from 128 to 159, unless the byte continues
-// another character in UTF-8. The character that consists of 194 and such a byte is a control character too.
+// Whether a terminal treats a byte as a control character. It does so for a byte from 128 to 159, unless the byte continues
+// another character in UTF-8. The character that consists of 194 and a byte from 128 to 159 is a control character too.
 fn is_control(before: u8, byte: u8) -> bool
     ensures { result ≡ is_control before byte }
 {
@@ -27,7 +27,7 @@ fn is_control(before: u8, byte: u8) -> bool
         || ((128 <= byte && byte < 160) && (before < 128 || before == 194))
 }
 
-// What a terminal is shown in place of a byte.
+// What a terminal shows for a byte.
 fn shown_byte(before: u8, byte: u8) -> u8
     ensures { result ≡ shown_byte before byte }
 {

@@ -14,7 +14,7 @@ use Rattle.cc_script.specs.declared.fault.ScriptFault.{ScriptFault}
 use Rattle.cc_script.specs.declared.fault.ScriptFault.TheVariants.{BadLine, EndOfScript, ScriptTooLong, ReadFault, WriteFault, Stopped}
 use Rattle.cc_script.specs.declared.script.NextLine.TheVariants.{TooLong}
 
--- a range begins with its first byte
+-- a range that is not empty is its first byte, followed by the range without it
 pub range_more : (bytes : List ℕ) (at end : ℕ) → at < end → at < length bytes
     → slice_range bytes at end ≡ slice_index bytes at ∷ slice_range bytes (at + 1) end
 range_more bytes at end more inside =
@@ -24,7 +24,7 @@ range_more bytes at end more inside =
 pub range_some : (bytes : List ℕ) (at end : ℕ) → 0 < length (slice_range bytes at end) → at < end
 range_some bytes at end some = let most = length-take (end - at) (drop at bytes) in omega (arith, most, some)
 
--- so the byte that is handed out is the next one of what is left
+-- the byte that is handed out is the next one of what is left
 pub taken : (before : Option (List ℕ)) (piece : List ℕ) (next end : ℕ) (is_over : Bool) (remaining : Option (List ℕ)) → next < end → next < length piece
     → Keeps before (rest_from (slice_range piece next end) is_over remaining)
     → Consumes before (rest_from (slice_range piece (next + 1) end) is_over remaining) (slice_index piece next ∷ [])
@@ -33,7 +33,7 @@ taken (Some bytes) piece next end true remaining more inside kept = sym kept ∙
 taken (Some bytes) piece next end false None more inside kept = kept
 taken (Some bytes) piece next end false (Some later) more inside kept = sym kept ∙ ap (λ (held : List ℕ). held ++ later) (range_more piece next end more inside)
 
--- bytes that are handed out after other bytes
+-- if `prefix` was handed out and then `back`, then `prefix ++ back` was handed out
 pub consumed_on : (before between after : Option (List ℕ)) (prefix back : List ℕ) → Consumes before between prefix → Consumes between after back
     → Consumes before after (prefix ++ back)
 consumed_on None between after prefix back one two = tt
@@ -42,12 +42,12 @@ consumed_on (Some bytes) (Some rest) None prefix back one two = two
 consumed_on (Some bytes) (Some rest) (Some later) prefix back one two =
     one ∙ (ap (λ (l : List ℕ). prefix ++ l) two ∙ sym (append_assoc prefix back later))
 
--- no bytes are handed out
+-- if what is left stays as it is, no bytes were handed out
 pub consumed_none : (before : Option (List ℕ)) → Consumes before before []
 consumed_none None = tt
 consumed_none (Some bytes) = refl
 
--- bytes are handed out, and the end is found
+-- if bytes are handed out, and what is left then stays as it is, just these bytes are handed out
 pub consumed_last : (before between after : Option (List ℕ)) (bytes : List ℕ) → Consumes before between bytes → Keeps between after → Consumes before after bytes
 consumed_last before between after bytes one two = Consumes-kept before between after bytes one two
 
@@ -60,14 +60,15 @@ some_bytes before bytes after is some = λ none.
     let o = ap (λ (l : List ℕ). length l) none in
     omega (arith, n, m, o, some)
 
--- what is known once these bytes were handed out
+-- if these bytes were handed out, `IsRead` is true of what was left before and after, if that is known
 pub read_of : (before after : Option (List ℕ)) (n m : ℕ) (bytes : List ℕ) (Holds : List ℕ → List ℕ → Type 0) → Consumes before after bytes → m + length bytes ≡ n
     → ((b a : List ℕ) → b ≡ bytes ++ a → Holds b a) → Known before after (IsRead n m Holds)
 read_of None after n m bytes Holds one count holds = tt
 read_of (Some b) None n m bytes Holds one count holds = one
 read_of (Some b) (Some a) n m bytes Holds one count holds = record { taken = bytes; prefix = one; counted = count; holds = holds b a one }
 
--- what is known if these were all bytes
+-- if these bytes were handed out and nothing is left, `IsRead` is true of what was left before and after, if that is
+-- known
 pub read_all : (before after : Option (List ℕ)) (n m : ℕ) (bytes : List ℕ) (Holds : List ℕ → List ℕ → Type 0) → Consumes before after bytes → IsAtEnd after → m + length bytes ≡ n
     → ((b a : List ℕ) → b ≡ bytes → a ≡ [] → Holds b a) → Known before after (IsRead n m Holds)
 read_all None after n m bytes Holds one over count holds = tt
@@ -75,7 +76,7 @@ read_all (Some b) None n m bytes Holds one over count holds = one
 read_all (Some b) (Some a) n m bytes Holds one over count holds =
     record { taken = bytes; prefix = one; counted = count; holds = holds b a (one ∙ (ap (λ (l : List ℕ). bytes ++ l) over ∙ append-nil bytes)) over }
 
--- a line was handed out with its newline
+-- if a line was handed out, and then a newline, the line was read
 pub line_with_newline : (before between after : Option (List ℕ)) (n k m : ℕ) (line : List ℕ) (Holds : List ℕ → List ℕ → Type 0) → All (λ byte. byte ≢ 10) line
     → Consumes before between line → k + length line ≡ n → Consumes between after (10 ∷ []) → m + 1 ≡ k
     → ((b a : List ℕ) → b ≢ [] → IsLine b line a → Holds b a) → Known before after (IsRead n m Holds)
@@ -84,7 +85,7 @@ line_with_newline before between after n k m line Holds plain one count two next
     read_of before after n m (line ++ 10 ∷ []) Holds (consumed_on before between after line (10 ∷ []) one two) (omega (arith, count, next, whole))
     (λ b a is. holds b a (some_bytes b (line ++ 10 ∷ []) a is (omega (arith, whole))) (record { plain = plain; ends = inl (is ∙ append_assoc line (10 ∷ []) a) }))
 
--- a line was handed out, and then the end was found
+-- if a line was handed out, and then the end was found, the line was read
 pub line_at_end : (before between after : Option (List ℕ)) (n k m : ℕ) (line : List ℕ) (Holds : List ℕ → List ℕ → Type 0) → All (λ byte. byte ≢ 10) line
     → Consumes before between line → k + length line ≡ n → Keeps between after × IsAtEnd after × (m ≡ k)
     → ((b a : List ℕ) → (0 < length line → b ≢ []) → IsLine b line a → Holds b a) → Known before after (IsRead n m Holds)
@@ -92,7 +93,7 @@ line_at_end before between after n k m line Holds plain one count over holds =
     read_all before after n m line Holds (consumed_last before between after line one over.0) over.1 (omega (arith, count, over.2))
     (λ b a is none. holds b a (some_bytes b line [] (is ∙ sym (append-nil line))) (record { plain = plain; ends = inr (is, none) }))
 
--- the end was found
+-- if only the end was found, nothing was read
 pub at_end : (before after : Option (List ℕ)) (n m : ℕ) (Holds : List ℕ → List ℕ → Type 0) → Keeps before after × IsAtEnd after × (m ≡ n)
     → ((b a : List ℕ) → b ≡ [] → a ≡ [] → Holds b a) → Known before after (IsRead n m Holds)
 at_end before after n m Holds over holds =
@@ -100,7 +101,7 @@ at_end before after n m Holds over holds =
 
 -- ---- why nothing more was read
 
--- there is another byte, but no more may be handed out
+-- if there is another byte, but the script may have no more, there are more bytes than it may have
 pub more_there : (before : Option (List ℕ)) (held : List ℕ) (is_over : Bool) (remaining : Option (List ℕ)) (left : ℕ) → left ≡ 0 → 0 < length held
     → Keeps before (rest_from held is_over remaining) → IfSome before (λ bytes. left < length bytes)
 more_there None held is_over remaining left none some kept = tt
@@ -111,7 +112,7 @@ more_there (Some b) held false (Some later) left none some kept =
     let m = length-append held later in
     omega (arith, n, m, none, some)
 
--- the same was true before bytes were handed out
+-- if there are too many bytes after some were handed out, there were too many before
 more_before : (before between : Option (List ℕ)) (n k : ℕ) (bytes : List ℕ) → Consumes before between bytes → k + length bytes ≡ n
     → IfSome between (λ rest. k < length rest) → IfSome before (λ all. n < length all)
 more_before None between n k bytes one count more = tt
@@ -139,7 +140,7 @@ no_source before between bytes wanted left ReadFault one count why = tt
 no_source before between bytes wanted left WriteFault one count why = absurd why
 no_source before between bytes wanted left Stopped one count why = absurd why
 
--- at the end, no more than these bytes were left
+-- if fewer than `count` bytes were handed out, and then the end was found, fewer than `count` were left
 pub fewer_left : (before between after : Option (List ℕ)) (bytes : List ℕ) (count : ℕ) → Consumes before between bytes → Keeps between after → IsAtEnd after
     → length bytes < count → HasFewer before count
 fewer_left None between after bytes count one two over few = tt
@@ -155,7 +156,7 @@ kept_more bytes byte few = take_all 65537 (bytes ++ byte ∷ []) (grind (arith, 
 pub kept_full : (bytes : List ℕ) (byte : ℕ) → 65537 ≤ length bytes → take 65537 (bytes ++ byte ∷ []) ≡ take 65537 bytes
 kept_full bytes byte full = take-append-le 65537 bytes (byte ∷ []) full
 
--- one more byte of a line
+-- if neither the first `n` bytes of a line nor the byte set at `n` is a newline, none of the first `n + 1` is
 pub plain_more : (line : List ℕ) (n byte : ℕ) → n < length line → All (λ b. b ≢ 10) (take n line) → byte ≢ 10 → All (λ b. b ≢ 10) (take (n + 1) (set line n byte))
 plain_more line n byte within plain other = subst (λ (l : List ℕ). All (λ b. b ≢ 10) l) (sym (take_more_set line n byte within)) (All-push (λ b. b ≢ 10) (take n line) byte plain other)
 
@@ -167,7 +168,7 @@ consumed_more before between after line n byte within one two =
 pub length_one_more : (prefix : List ℕ) (byte n : ℕ) → length prefix ≡ n → length (prefix ++ byte ∷ []) ≡ n + 1
 length_one_more prefix byte n same = length-append prefix (byte ∷ []) ∙ ap (λ (k : ℕ). k + 1) same
 
--- a line has one byte more than it may have
+-- if 128 bytes of a line are followed by a byte other than a newline, the line is too long
 pub too_long : (before between after : Option (List ℕ)) (n k m : ℕ) (line : List ℕ) (byte : ℕ) → length line ≡ 128 → All (λ b. b ≢ 10) (take 128 line) → byte ≢ 10
     → Consumes before between (take 128 line) → k + 128 ≡ n → Consumes between after (byte ∷ []) → m + 1 ≡ k → (other : List ℕ)
     → Known before after (IsRead n m (λ b a. IsNext b TooLong other a))
@@ -183,13 +184,13 @@ kept_next false now items bytes byte done is same few = absurd (false≢true don
 kept_next true now items bytes byte done is same few =
     is ∙ (ap (λ (l : List ℕ). l ++ byte ∷ []) (same ∙ take_all 65537 bytes (omega (arith, few))) ∙ sym (kept_more bytes byte few))
 
--- a source was read
+-- if `count` bytes were handed out, they were read as a source
 pub source_read : (before after : Option (List ℕ)) (n m : ℕ) (source : List ℕ) (count : ℕ) (kept : Option (List ℕ)) → Consumes before after source → m + count ≡ n → length source ≡ count
     → IfSome kept (λ bytes. bytes ≡ take 65537 source) → Known before after (IsRead n m (λ b a. IsSource b count kept a))
 source_read before after n m source count kept one left same it =
     read_of before after n m source (λ b a. IsSource b count kept a) one (omega (arith, left, same)) (λ b a is. record { source = source; prefix = is; count_is = same; kept_is = it })
 
--- a byte other than a newline ends no line
+-- a byte other than a newline does not end a line
 pub other_byte : (before after : Option (List ℕ)) (n m byte : ℕ) → byte ≢ 10 → Consumes before after (byte ∷ []) → m + 1 ≡ n → Known before after (IsRead n m (λ b a. IsLineEnd b false a))
 other_byte before after n m byte other one count =
     read_of before after n m (byte ∷ []) (λ b a. IsLineEnd b false a) one count (λ b a is. (byte, other, is))

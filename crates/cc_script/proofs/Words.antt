@@ -8,7 +8,7 @@ use Rattle.std.proofs.lemmas.Grind.{common_steps}
 use Rattle.cc_script.specs.Line.{words, asked_in, asked_of}
 use Rattle.cc_script.specs.declared.command.Dialect.{Dialect}
 
--- a byte is a space or it is not
+-- if a byte is 32, the test for a space is true
 pub is_space : (byte : ℕ) → byte ≡ 32 → (byte == 32) ≡ true
 is_space byte same = search (arith, same)
 
@@ -19,7 +19,8 @@ is_no_space byte other = search (arith, other)
 parts : (line : List ℕ) (i : ℕ) → i < length line → take i line ++ get_or line i 0 ∷ drop (i + 1) line ≡ line
 parts line i within = grind (arith, common_steps, take-append-drop i line, drop-cons line i 0 within)
 
--- the words of a line with its first space at an index
+-- if the first space of a line is at `i`, its words are the bytes before it, and the words of what comes
+-- after it
 pub cut_at : (line : List ℕ) (i rest : ℕ) → i < length line → All (λ b. (b == 32) ≡ false) (take i line) → get_or line i 0 ≡ 32 → length line ≤ rest + (i + 1)
     → words line ≡ take i line ∷ words (take rest (drop (i + 1) line))
 cut_at line i rest within none space whole =
@@ -28,7 +29,7 @@ cut_at line i rest within none space whole =
     (subst (λ (l : List ℕ). words l ≡ take i line ∷ words (drop (i + 1) line)) (parts line i within)
     (slice_split_at (λ b. b == 32) (take i line) (get_or line i 0) (drop (i + 1) line) none (is_space (get_or line i 0) space)))
 
--- the words of a line without a space
+-- a line without a space is one word
 pub uncut : (line : List ℕ) (i : ℕ) → length line ≤ i → All (λ b. (b == 32) ≡ false) (take i line) → words line ≡ line ∷ []
 uncut line i past none =
     slice_split_none (λ b. b == 32) line (subst (λ (l : List ℕ). All (λ b. (b == 32) ≡ false) l) (take_all i line past) none)
@@ -38,7 +39,7 @@ more : (dialect : Dialect) (verb name first second : List ℕ) (rest : List (Lis
 more dialect verb name first second [] some = absurd (omega arith)
 more dialect verb name first second (one ∷ others) some = refl
 
--- so a line with a space after its fourth word asks for nothing
+-- a line with a space after its fourth word asks for nothing
 pub too_many : (dialect : Dialect) (line verb name first fourth behind second third next : List ℕ) → words line ≡ verb ∷ words second → words second ≡ name ∷ words third → words third ≡ first ∷ words next
     → words next ≡ fourth ∷ words behind → None ≡ asked_of dialect line
 too_many dialect line verb name first fourth behind second third next one two three four =

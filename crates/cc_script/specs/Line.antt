@@ -44,7 +44,7 @@ asked_by command.Space = Space
 
 -- ---- numbers
 
--- the number whose digits are those of n and then these; none if a byte is no digit
+-- the number whose digits are those of n and then these; `None` if a byte is not a digit
 abbrev pub number_from : ℕ → List ℕ → Option ℕ
 number_from n [] = Some n
 number_from n (byte ∷ bytes) = if is_ascii_digit byte then number_from (10 * n + (byte - 48)) bytes else None

@@ -48,7 +48,7 @@ pub record IsRead (may_have may_still : ℕ) (Holds : List ℕ → List ℕ → 
   pub counted : may_still + length taken ≡ may_have
   pub holds : Holds before after
 
--- what is ahead before and after is as `IsRead` says, if it is known
+-- what is left before and what is left after satisfy `IsRead`, if they are known
 abbrev pub Between : (before after : Ahead) → (Holds : List ℕ → List ℕ → Type 0) → Type 0
 Between before after Holds = Known before.rest after.rest (IsRead before.left after.left Holds)
 
@@ -94,7 +94,7 @@ IsNotRead before left EndOfScript = ⊥
 IsNotRead before left WriteFault = ⊥
 IsNotRead before left Stopped = ⊥
 
--- the same for a source of this many bytes; also 51, if fewer are left
+-- why no source of this many bytes is read: 51, if fewer bytes are left; 52 and 53 as for a line
 abbrev pub IsNoSource : (before : Ahead) → (count left : ℕ) → ScriptFault → Type 0
 IsNoSource before count left EndOfScript = HasFewer before.rest count
 IsNoSource before count left ScriptTooLong = IsNotRead before left ScriptTooLong

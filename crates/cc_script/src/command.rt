@@ -24,23 +24,23 @@ pub enum Dialect {
 /// What a line of a script asks for.
 #[derive(Clone, Copy, Drop)]
 pub enum ScriptCommand<'a> {
-    /// Add a unit by that name, compiled from `length` bytes of source after the line.
+    /// Add a unit under that name, compiled from `length` bytes of source after the line.
     Add {
         name: &'a [u8],
         length: usize,
     },
-    /// Replace the unit by that name, in the same way.
+    /// Replace the unit under that name with one that is compiled in the same way.
     Replace {
         name: &'a [u8],
         length: usize,
     },
-    /// Withdraw the unit by that name.
+    /// Withdraw the unit under that name.
     Withdraw {
         name: &'a [u8],
     },
     /// List the names of all units.
     List,
-    /// Run the unit by that name for at most `steps` instructions.
+    /// Run the unit under that name for at most `steps` instructions.
     Run {
         name: &'a [u8],
         steps: u64,
@@ -49,36 +49,36 @@ pub enum ScriptCommand<'a> {
     Compact,
     /// Audit each unit by its certificate.
     Audit,
-    /// Write the image of the unit by that name.
+    /// Write the image of the unit under that name.
     Image {
         name: &'a [u8],
     },
-    /// Write the source of the unit by that name.
+    /// Write the source of the unit under that name.
     Source {
         name: &'a [u8],
     },
-    /// Audit the unit by that name.
+    /// Audit the unit under that name.
     AuditOne {
         name: &'a [u8],
     },
-    /// Replace the unit by that name if its source is the `expected` bytes after the line. The new one is compiled from the
-    /// `length` bytes that come after those.
+    /// Replace the unit under that name if its source is the `expected` bytes after the line. The new unit is compiled from the
+    /// `length` bytes after those.
     Update {
         name: &'a [u8],
         expected: usize,
         length: usize,
     },
-    /// Run the unit by that name for at most `steps` instructions, on the input words of `length` bytes after the line.
+    /// Run the unit under that name for at most `steps` instructions, on the input words of `length` bytes after the line.
     Call {
         name: &'a [u8],
         steps: u64,
         length: usize,
     },
-    /// Say how much of its area the library takes.
+    /// Say how much of its area the library uses.
     Space,
 }
 
-// The first word of a line, and what comes after the space that ends it, if one does.
+// The first word of a line, and what comes after the space that ends it, if a space does.
 fn cut(line: &[u8]) -> (&[u8], Option<&[u8]>)
     ensures { words line.now ≡ words_behind result.0.now result.1 }
 {
@@ -118,7 +118,7 @@ fn length_in(bytes: &[u8]) -> Option<usize>
     }
 }
 
-// A command of one word, if it is one of a session's script.
+// The command of one word, if a session's script may have it.
 fn one_plain_word<'a>(verb: &[u8]) -> Option<ScriptCommand<'a>>
     ensures { option_map asked_by result ≡ one_plain_word verb.now }
 {
@@ -133,7 +133,7 @@ fn one_plain_word<'a>(verb: &[u8]) -> Option<ScriptCommand<'a>>
     }
 }
 
-// A command of one word, if it is one of a script that is left for a server.
+// The command of one word, if a script that is left for a server may have it.
 fn one_served_word<'a>(verb: &[u8]) -> Option<ScriptCommand<'a>>
     ensures { option_map asked_by result ≡ one_served_word verb.now }
 {
@@ -154,7 +154,7 @@ fn one_word<'a>(dialect: Dialect, verb: &[u8]) -> Option<ScriptCommand<'a>>
     }
 }
 
-// A command of two words, if it is one of a session's script.
+// The command of two words, if a session's script may have it.
 fn two_plain_words<'a>(verb: &[u8], name: &'a [u8]) -> Option<ScriptCommand<'a>>
     ensures { option_map asked_by result ≡ two_plain_words verb.now name.now }
 {
@@ -165,7 +165,7 @@ fn two_plain_words<'a>(verb: &[u8], name: &'a [u8]) -> Option<ScriptCommand<'a>>
     }
 }
 
-// A command of one word, if it is one of a script that is left for a server.
+// The command of two words, if a script that is left for a server may have it.
 fn two_served_words<'a>(verb: &[u8], name: &'a [u8]) -> Option<ScriptCommand<'a>>
     ensures { option_map asked_by result ≡ two_served_words verb.now name.now }
 {
@@ -212,7 +212,7 @@ fn three_words<'a>(verb: &[u8], name: &'a [u8], digits: &[u8]) -> Option<ScriptC
     None
 }
 
-// A command of four words of a script that is left for a server.
+// The command of four words, if a script that is left for a server may have it.
 fn four_served_words<'a>(
     verb: &[u8],
     name: &'a [u8],
@@ -261,7 +261,7 @@ fn four_words<'a>(
     }
 }
 
-/// What a line of a script, given without its newline, asks for; none if it is no command of that dialect.
+/// What a line of a script, given without its newline, asks for; `None` if it is not a command of that dialect.
 pub fn command_of(dialect: Dialect, line: &[u8]) -> Option<ScriptCommand<'_>>
     ensures { option_map asked_by result ≡ asked_of dialect line.now }
 {

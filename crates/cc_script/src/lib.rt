@@ -2,8 +2,8 @@
 //!
 //! `command` is what a line asks for, in a session's script or in one that is left for a server; `commands` lists what lines may
 //! ask for, for a person; `script` reads lines and sources from a reader; `fault` is why a script or a line of it is refused. The
-//! crate knows nothing about libraries and services. It exports `command_of`, `ScriptCommand`, `Dialect`, `COMMANDS`, `Script`,
-//! `NextLine`, `ScriptFault` and the limits.
+//! crate knows nothing about libraries and services. It exports `command_of`, `ScriptCommand`, `Dialect`, `COMMANDS`,
+//! `PLAIN_COMMANDS`, `Script`, `NextLine`, `ScriptFault` and the limits.
 #![tactic(auto)]
 
 mod command;

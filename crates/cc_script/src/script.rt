@@ -21,7 +21,7 @@ pub const LINE_BYTES: usize = 128;
 /// How many bytes of a source are kept: one more than a source may have, so that a longer one can be recognized.
 const KEPT_BYTES: usize = 65_537;
 
-/// How many bytes are asked of a reader at a time.
+/// How many bytes a reader is asked for at a time.
 const PIECE_BYTES: usize = 65_536;
 
 /// What comes next in a script.
@@ -40,7 +40,7 @@ pub enum NextLine {
 #[derive(Drop)]
 pub struct Script {
     piece: [u8; PIECE_BYTES],
-    // What was read but not used yet lies between these two.
+    // What was read but not used yet lies between these two offsets.
     next: usize,
     end: usize,
     // How many more bytes the script may have.
@@ -89,7 +89,7 @@ impl Script {
         self.left
     }
 
-    // Reads more, if all that was read has been used. The result is whether there is more.
+    // Reads more, if all that was read has been used. The result is whether there is a byte that was not used yet.
     fn fill<R: Read>(&mut self, reader: &mut R) -> Result<bool, ScriptFault>
         ensures filled { IfOk result (λ is_more. is_more ≡ true → 0 < length self.new.held) }
         ensures left { self.new.left ≡ self.old.left }
@@ -113,7 +113,7 @@ impl Script {
         Ok(count > 0)
     }
 
-    // The next byte, or none at the end.
+    // The next byte, or `None` at the end.
     fn byte<R: Read>(&mut self, reader: &mut R) -> Result<Option<u8>, ScriptFault>
         ensures bytes { IfOk result (λ next. IsNextByte (ahead_of self.old (R.remaining reader.old)) next
             (ahead_of self.new (R.remaining reader.new))) }
@@ -159,7 +159,7 @@ impl Script {
 
     /// Skips what is left of a line, and its newline.
     ///
-    /// 52 and 53 as for a line.
+    /// 52 and 53 as for `next_line`.
     pub fn skip_line<R: Read>(&mut self, reader: &mut R) -> Result<(), ScriptFault>
         ensures bytes { OnOk result (Between (ahead_of self.old (R.remaining reader.old))
             (ahead_of self.new (R.remaining reader.new)) (λ before after. (rest : List ℕ) × IsLine before rest after)) }
@@ -173,10 +173,10 @@ impl Script {
         Ok(())
     }
 
-    /// The source of this many bytes that comes next; if it has more than 65,536, the first 65,537 of them. None if there is no
-    /// room for it; it is read in that case too.
+    /// The next source, which has this many bytes; only its first 65,537 bytes if it has more than 65,536. `None` if memory for it ran
+    /// out; the source is read in that case too.
     ///
-    /// 51 if the script ends before the source does, 52 and 53 as for a line.
+    /// 51 if the script ends before the source does, 52 and 53 as for `next_line`.
     pub fn source<R: Read>(
         &mut self,
         alloc: Global,
@@ -204,7 +204,7 @@ impl Script {
 
     /// Whether a source ends here: with a newline, which is skipped, or with the end of the script.
     ///
-    /// 52 and 53 as for a line.
+    /// 52 and 53 as for `next_line`.
     pub fn is_at_line_end<R: Read>(&mut self, reader: &mut R) -> Result<bool, ScriptFault>
         ensures bytes { IfOk result (λ is_ended. Between (ahead_of self.old (R.remaining reader.old))
             (ahead_of self.new (R.remaining reader.new)) (λ before after. IsLineEnd before is_ended after)) }

@@ -36,7 +36,7 @@ pub implied : (a b : Bool) → (not a || b) ≡ true → a ≡ true → b ≡ tr
 implied true b e p = e
 implied false b e p = absurd (let z : false ≡ true = p in cc)
 
--- a value with a property either way has it
+-- if both branches of an `if` have a property, the `if` has the property
 pub either_way : {A : Type 0} (P : A → Type 0) (b : Bool) (x y : A) → P x → P y → P (if b then x else y)
 either_way P true x y p q = p
 either_way P false x y p q = q

@@ -28,7 +28,7 @@ module _ (P : Step → Type 0) where
   right_gives None p to a s g x = x
   right_gives (Some w) p to a s g x = word_gives (immediate_of p w) to a s (λ f e has. g w f refl e has) x
 
-  -- an operation: with a word on the right, with one on the left, or unchanged
+  -- the step for an operation has a word on the right or on the left, or is the operation unchanged
   pub binary_gives : (k : Known) (p : binary.Binary) (to a b : ℕ) → ((w : ℕ) (f : Form) → k b ≡ Some w → immediate_of p w ≡ Some f → has_word f.0 f.1 ≡ true → P (Immediate f.0 to a f.1))
       → ((w : ℕ) (f : Form) → k a ≡ Some w → immediate_of_left p w ≡ Some f → has_word f.0 f.1 ≡ true → P (Immediate f.0 to b f.1)) → P (One (Binary p to a b)) → P (choose k (Binary p to a b))
   binary_gives k p to a b f g x = right_gives (k b) p to a (with_left (k a) p to b (One (Binary p to a b))) f (left_gives (k a) p to b (One (Binary p to a b)) g x)
@@ -37,7 +37,7 @@ module _ (P : Step → Type 0) where
   number_gives None s f g x = x
   number_gives (Some w) s f g x = g w refl
 
-  -- an access: with the element's number, or unchanged
+  -- the step for an access has the element's number, or is the access unchanged
   pub load_gives : (k : Known) (width : Width) (g to i : ℕ) → ((w : ℕ) → k i ≡ Some w → P (LoadAt width g to w)) → P (One (Load width g to i)) → P (choose k (Load width g to i))
   load_gives k width g to i f x = number_gives (k i) (One (Load width g to i)) (λ w. LoadAt width g to w) f x
 
@@ -57,7 +57,7 @@ module _ (P : Step → Type 0) where
       by true e = f w refl e
       by false e = x
 
-  -- a branch: a jump if the word is known and leads there, or unchanged
+  -- the step for a branch is a jump if the word is known and leads to the label, or the branch unchanged
   pub nonzero_gives : (k : Known) (r n : ℕ) → ((w : ℕ) → k r ≡ Some w → (w == 0) ≡ false → P (One (Jump n))) → P (One (IfNonzero r n)) → P (choose k (IfNonzero r n))
   nonzero_gives k r n f x = test_gives true (k r) (IfNonzero r n) n f x
 

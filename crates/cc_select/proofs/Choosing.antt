@@ -112,7 +112,7 @@ module _ (arity : ℕ → ℕ) (code : List LinearItem) where
       by None = tt
       by (Some v) = b v
 
-  -- a word is made and put into a register
+  -- if both runs compute the same word, they stay alike when they write it to a register
   put_alike : (x y : Option ℕ) (to : ℕ) (k : Known) (is : List LinearItem) (l : Locations) (h : World) (ws : List ℕ) → Holds k l → x ≡ y
       → Both (tried x (λ w. Goes (at_items is (put (Register to) w l) h ws))) (tried y (λ w. Goes (at_steps (chosen (forget to k) is) (put (Register to) w l) h ws)))
   put_alike x y to k is l h ws p e =
@@ -196,7 +196,7 @@ module _ (arity : ℕ → ℕ) (code : List LinearItem) where
 
 -- ---- the whole
 
--- code that keeps up with a function keeps up as chosen steps too, at the same rate
+-- if code keeps up with a function, the steps chosen for it do too, at the same rate
 pub chosen_tracks : (meaning : Meaning) (f rate slots : ℕ) (code : List LinearItem)
     → TracksForAll meaning f rate (linear_move meaning.arity code) linear_output (linear_start slots code)
     → TracksForAll meaning f rate (selected_move meaning.arity (chosen unknown code)) selected_output (selected_start slots (chosen unknown code))

@@ -1,5 +1,5 @@
 -- The steps that are made from a function of Linear form a function of Selected: the labels are the same list, jumps and branches
--- lead to labels of it, registers stay registers, and each word and number is one that the step's instructions can have. Known
+-- lead to labels of it, registers stay registers, and each word and number is one that the step's instructions can encode. Known
 -- words are words, since they come from items.
 use Rattle.std.proofs.Common.{◌≡◌, ℕ, List, [], ◌∷◌, Option, Some, None, true, false, Bool, ◌≢◌, refl, sym, ap, ◌∙◌, subst}
 use Rattle.std.specs.Prelude.{if◌then◌else◌, ◌==◌, ◌||◌, not, Contains}
@@ -218,7 +218,7 @@ module _ (slots functions : ℕ) (all : List ℕ) where
   near_fits z [] f p = tt
   near_fits z (s ∷ steps) f p = (near_step_fits s z f.0 p, near_fits (sum_behind s z) steps f.1 (sum_of s z f.0 p))
 
-  -- a test leads to a label
+  -- a test leads to a label of the list
   test_fits : (steps : List Step) (t : Test) → test_of steps ≡ Some t → AreFit steps → Contains all t.to
   test_fits [] t e f = none_some t e
   test_fits (One (IfNonzero r n) ∷ steps) t e f = let er : record { register = r; nonzero = true; to = n } ≡ t = cc in subst (λ (u : Test). Contains all u.to) er f.0.1

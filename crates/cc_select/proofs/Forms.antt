@@ -1,5 +1,5 @@
--- The table of forms gives, for an operator with a known word on its right or on its left, an operator on a register and a word
--- that gives the same for each register's word. A product, a quotient and a remainder with 2^k become a shift and a mask.
+-- For an operator with a known word on its right or on its left, the table of forms has an operator on a register and a word that
+-- gives the same result for each register's word. A product, a quotient and a remainder with 2^k become a shift and a mask.
 use Rattle.std.proofs.Common.{◌≡◌, ℕ, ◌-◌, ◌/◌, ◌%◌, ◌*◌, ◌^◌, ◌<◌, Option, Some, None, true, false, Bool, refl, sym, ap, ◌∙◌, subst, mul_comm, arith}
 use Rattle.std.proofs.lemmas.Nat.{pow_pos, trailing_le, and_mask, and_comm, or_comm, xor_comm}
 use Rattle.std.specs.Prelude.{if◌then◌else◌, ◌==◌, not, nat_lt, bit_and}
@@ -13,7 +13,8 @@ use Rattle.cc_select.specs.declared.step.WordOperator.TheVariants.{Add, Sub, Shl
 use Rattle.cc_select.specs.Immediates.{apply_immediate, has_word, exponent, is_power, Form, immediate_of, immediate_of_left}
 use Rattle.cc_select.proofs.Basics.{none_some, eqb_says, eqb_turned}
 
--- how a form relates to an operator with the word w in its place: if the form's instructions can have its word, it gives the same
+-- a form stands for an operator with the word w as one operand: if the form's instructions can encode its word, the form gives
+-- the same result
 pub record Stands (gives : ℕ → Option ℕ) (w : ℕ) (f : Form) : Type 0 where
   pub same : (a : ℕ) → has_word f.0 f.1 ≡ true → gives a ≡ apply_immediate f.0 a f.1
   pub word : IsWord w → IsWord f.1
@@ -25,7 +26,7 @@ with_it gives w o f e same = let is : (o, w) ≡ f = cc in subst (Stands gives w
 
 -- ---- powers of two
 
--- the form of a power, with a property of that form
+-- if an operator has a form only for powers of two, that form stands for the operator if it does for each power of two
 of_power : (gives : ℕ → Option ℕ) (w : ℕ) (g f : Form) → (if is_power w then Some g else None) ≡ Some f → (w ≡ 2 ^ exponent w → Stands gives w g) → Stands gives w f
 of_power gives w g f e stands = by (is_power w) refl e
   where
@@ -40,7 +41,7 @@ exponent_word w = omega (arith, trailing_le 32 w)
 shifted : (k v : ℕ) → nat_lt k 32 ≡ true → Some v ≡ (if nat_lt k 32 then Some v else None)
 shifted k v has = sym (ap (λ (b : Bool). if b then Some v else None) has)
 
--- the divisor is not 0
+-- a divisor that is a power of two is not 0
 nonzero : (w k v : ℕ) → w ≡ 2 ^ k → (if w == 0 then None else Some v) ≡ Some v
 nonzero w k v e = by (w == 0) refl
   where

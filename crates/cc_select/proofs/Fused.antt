@@ -1,6 +1,6 @@
--- If a comparison and the test after it are one branch, a run keeps up as it does if they are two. The comparison is no move then, and the
--- branch does both. Between them (`Middle`) the branch is known to lead where the test does, and the truth value's register may be
--- anything, since nothing reads it after the test.
+-- A run in which a comparison and the test after it are one branch keeps up as the run does in which they are two steps. The comparison is
+-- then not a move, and the branch does both. Between them (`Middle`) the branch is known to lead where the test does, and the truth value's
+-- register may be anything, since nothing reads it after the test.
 use Rattle.std.proofs.Common.{◌≡◌, ℕ, ◌≤◌, ◌⊎◌, List, [], ◌∷◌, ◌++◌, Option, Some, None, true, false, Bool, length, bit_xor, refl, sym, ap, ap₂, ◌∙◌, subst, inl, inr, arith}
 use Rattle.std.proofs.lemmas.Bool.Decides.{nat_tests}
 use Rattle.std.specs.Int.Bits.{xor_self, xor_zero_l, xor_zero_r, xor_assoc}
@@ -42,7 +42,7 @@ test_head at (One (IfNonzero r n) ∷ steps) t e = refl
 test_head at (One (IfZero r n) ∷ steps) t e = refl
 test_head at (s ∷ steps) t e = none_some t e
 
--- a test is no label
+-- a test is not a label, so no label's place changes without it
 test_place : (at : ℕ → Registers) (steps : List Step) (t : Test) (l : ℕ) → test_of steps ≡ Some t → place (behind (fused at steps)) l ≡ place (fused at steps) l
 test_place at [] t l e = refl
 test_place at (One (IfNonzero r n) ∷ steps) t l e = refl
@@ -60,7 +60,7 @@ test_live at (One (IfZero a n) ∷ steps) t e =
     subst (λ (u : Test). (r : ℕ) → In (either (at u.to) (live at steps)) r → In (live at (One (IfZero a n) ∷ steps)) r) er (λ r i. in_more a r (either (at n) (live at steps)) i)
 test_live at (s ∷ steps) t e = none_some t e
 
--- what the test does
+-- the test leads to its label or to the next step, as its register's word says
 test_does : (arity : ℕ → ℕ) (code steps : List Step) (t : Test) (l : Locations) (h : World) (ws : List ℕ) → test_of steps ≡ Some t
     → does arity code steps l h ws ≡ Goes (at_steps (led t.nonzero (l (Register t.register)) (behind steps) (place code t.to)) l h ws)
 test_does arity code [] t l h ws e = none_some t e
@@ -74,8 +74,8 @@ test_does arity code (s ∷ steps) t l h ws e = none_some t e
 
 -- ---- the words that steps make
 
--- a step whose word is only tested for 0, and the branch that replaces both: the word depends only on what is live before the step, and the
--- branch leads where the word says
+-- a step whose word is used only by a test for 0, and the branch that replaces the step and the test: the word depends only on what is live
+-- before the step, and the branch leads where the word says
 pub record IsTruth (s : Step) (v : Truth) : Type 0 where
   pub value : Locations → Option ℕ
   pub makes : (arity : ℕ → ℕ) (code steps : List Step) (l : Locations) (h : World) (ws : List ℕ) → does arity code (s ∷ steps) l h ws ≡ tried (value l) (λ w. Goes (at_steps steps (put (Register v.register) w l) h ws))
@@ -87,7 +87,7 @@ pub record IsTruth (s : Step) (v : Truth) : Type 0 where
   pub branches : (arity : ℕ → ℕ) (code steps : List Step) (l : Locations) (h : World) (ws : List ℕ) (nonzero : Bool) (n w : ℕ) → value l ≡ Some w
       → does arity code (v.branch nonzero n ∷ steps) l h ws ≡ Goes (at_steps (led nonzero w steps (place code n)) l h ws)
 
--- a branch on whether a word is zero, given the word
+-- a branch on whether a word is zero leads where the truth value says
 zero_led : (b : Bool) (on there : List Step) → (if b then there else on) ≡ led true (truth_value b) on there
 zero_led true on there = refl
 zero_led false on there = refl
@@ -140,7 +140,7 @@ binary_truth o to a b is = record {
   branches = λ arity code steps l h ws nonzero n w e. ap (λ z. tried z (λ v. Goes (at_steps (led nonzero v steps (place code n)) l h ws))) e;
 }
 
--- a branch on whether words differ, given their xor
+-- words whose xor is 0 are the same
 xor_same : (a b : ℕ) → xor a b ≡ 0 → a ≡ b
 xor_same a b e = sym (xor_zero_r a) ∙ ap (λ x. bit_xor a x) (sym (xor_self b)) ∙ sym (xor_assoc a b b) ∙ ap (λ x. bit_xor x b) e ∙ xor_zero_l b
 
@@ -199,7 +199,7 @@ immediate_truth o to a w gains = record {
   branches = λ arity code steps l h ws nonzero n u e. ap (λ z. tried z (λ v. Goes (at_steps (led nonzero v steps (place code n)) l h ws))) e;
 }
 
--- a property of the branch for the word that a step makes, if there is one
+-- if `if_so b u` is `v`, and `u` has a property if b is true, `v` has that property
 if_is : (P : Truth → Type 0) (b : Bool) (u v : Truth) → (b ≡ true → P u) → if_so b u ≡ Some v → P v
 if_is P true u v p e = let q : u ≡ v = cc in subst P q (p refl)
 if_is P false u v p e = none_some v e
@@ -259,7 +259,7 @@ module _ (arity : ℕ → ℕ) (code : List Step) (at : ℕ → Registers) (sett
   abbrev IsPlain : Configuration → Configuration → Type 0
   IsPlain = Plain arity code make places at settled few
 
-  -- between the comparison and its test
+  -- the old run is between a comparison and its test, and the new one is at the branch that replaces both
   pub record Middle (c d : Configuration) : Type 0 where
     pub before : List ℕ
     pub test : Test
@@ -288,7 +288,7 @@ module _ (arity : ℕ → ℕ) (code : List Step) (at : ℕ → Registers) (sett
       → Owed (does arity code (s ∷ steps) l h ws) (s ∷ steps) h (at_steps (labelled ns (s ∷ make steps)) k h ws)
   kept = owes_kept arity code make places at settled few Related plain
 
-  -- a comparison that becomes one with its test: it is no move yet
+  -- a comparison that is joined with its test is not a move of the new run yet
   owes_truth : (s : Step) (v : Truth) (x : IsTruth s v) (t : Test) (steps : List Step) (ns : List ℕ) (l k : Locations) (h : World) (ws : List ℕ) → length steps ≤ length code → test_of steps ≡ Some t
       → is_alone at v.register t steps ≡ true → Agree (live at (s ∷ steps)) l k → (z : Option ℕ) → x.value l ≡ z
       → Owed (tried z (λ w. Goes (at_steps steps (put (Register v.register) w l) h ws))) (s ∷ steps) h (at_steps (labelled ns (v.branch t.nonzero t.to ∷ behind (make steps))) k h ws)
@@ -339,7 +339,7 @@ module _ (arity : ℕ → ℕ) (code : List Step) (at : ℕ → Registers) (sett
   owes (One (Label n) ∷ steps) ns l k h ws le g = owes_label arity code make places at settled few Related plain n steps (make steps) ns l k h ws (owes steps (ns ++ n ∷ []) l k h ws (omega arith) g)
   owes (s ∷ steps) ns l k h ws le g = owes_joined s steps ns l k h ws tt le g (truth_of s) (test_of steps) refl refl
 
-  -- the test, with the branch that replaces both
+  -- the steps after the test are no more than the code has
   short_behind : (steps : List Step) → length steps ≤ length code → length (behind steps) ≤ length code
   short_behind [] le = le
   short_behind (s ∷ steps) le = omega arith
@@ -386,7 +386,7 @@ module _ (arity : ℕ → ℕ) (code : List Step) (at : ℕ → Registers) (sett
   world_of c d (inl r) = r.world
   world_of c d (inr r) = r.world
 
--- code that keeps up with a function keeps up with such branches, at a slower rate
+-- if code keeps up with a function, it still does with comparisons and tests joined, at a slower rate
 pub fused_tracks : (meaning : Meaning) (f rate slots : ℕ) (code : List Step) (at : ℕ → Registers) → IsSettled at code → ((g : ℕ) → meaning.arity g ≤ 8)
     → TracksForAll meaning f rate (selected_move meaning.arity code) selected_output (selected_start slots code)
     → TracksForAll meaning f (coarser rate (length code)) (selected_move meaning.arity (fused at code)) selected_output (selected_start slots (fused at code))

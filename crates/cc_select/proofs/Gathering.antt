@@ -1,5 +1,6 @@
--- The table of the tests that go before labels, as the code makes it: from the back, the test after each label; then no test for
--- each label to which a branch leads. The walk: the steps so far, with those of the items to come.
+-- The table of the tests that go before labels, as the code makes it: from the back, it notes the test after each label; then it
+-- clears the labels to which branches lead. In the walk, the steps so far, followed by those of the items to come, are all the
+-- steps.
 use Rattle.std.proofs.Common.{◌≡◌, ℕ, ◌+◌, ◌-◌, ◌<◌, ◌≤◌, List, ◌∷◌, ◌++◌, length, get_or, drop, refl, sym, ap, ◌∙◌, Bool, true, false, ◌==◌, ◌||◌, if◌then◌else◌, Option, Some, None, append_assoc, arith}
 use Rattle.std.proofs.lemmas.List.{drop_more, drop_all}
 use Rattle.cc_linear_language.specs.declared.item.LinearItem.{LinearItem}
@@ -59,7 +60,7 @@ gather_other items at item found (pos, is) f g =
 
 -- ---- branches
 
--- no tests for the labels to which branches of the first items lead
+-- `new` is `old` without the tests for the labels to which branches of the first items lead
 abbrev pub Crossed : (items : List LinearItem) (at : ℕ) (old new : Tests) → Type 0
 Crossed items at old new = (n : ℕ) → (if branches_to (drop at items) n then None else new n) ≡ (if branches_to items n then None else old n)
 

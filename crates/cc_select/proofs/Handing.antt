@@ -1,4 +1,4 @@
--- The parts of a pair of Selected, as the pass has them.
+-- The parts of a pair of Selected, as the pass computes them.
 use Rattle.std.proofs.Common.{◌≡◌, ℕ, List, sym, subst}
 use Rattle.cc_ast.specs.declared.unit.Unit as parsed
 use Rattle.cc_c_semantics.specs.declared.mode.Mode.{Mode}

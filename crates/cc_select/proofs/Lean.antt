@@ -1,5 +1,5 @@
--- Without the constants that nobody reads, a run keeps up as it does with them. What is live is the same without them, so a settled table
--- stays settled. A constant that is left out is no move, and the register that it wrote is not live.
+-- Without the constants that no step reads, a run keeps up as it does with them. What is live is the same without them, so a settled
+-- table stays settled. A constant that is left out is not a move of the new run, and the register that it wrote is not live.
 use Rattle.std.proofs.Common.{◌≡◌, ℕ, ◌≤◌, List, [], ◌∷◌, ◌++◌, Option, Some, None, true, false, Bool, length, refl, sym, ap, ◌∙◌, subst, inr, arith}
 use Rattle.std.specs.Prelude.{if◌then◌else◌, ◌==◌, ◌&&◌, ◌||◌, not}
 use Rattle.cc_simulation.specs.World.{World}
@@ -24,7 +24,7 @@ use Rattle.cc_select.proofs.Making.{labelled, Plain, Owes, owes_kept, owes_label
 
 -- ---- the list
 
--- what is live stays live
+-- without the constants that no step reads, the same registers are live before the steps
 pub lean_live : (at : ℕ → Registers) (steps : List Step) (r : ℕ) → live at (lean at steps) r ≡ live at steps r
 lean_live at [] r = refl
 lean_live at (One (Const to w) ∷ steps) r = by (live at steps to) refl (lean_live at steps r)
@@ -68,7 +68,7 @@ lean_place at (Immediate o to a w ∷ steps) l =
     either_way (λ (xs : List Step). place xs l ≡ lean at (place steps l)) (live at steps to || not (live at steps a)) (Immediate o to a w ∷ lean at steps) (lean at steps) (lean_place at steps l) (lean_place at steps l)
 lean_place at (s ∷ steps) l = lean_place at steps l
 
--- a settled table stays settled
+-- a table that is settled for the code is settled for the code without these constants too
 pub lean_settled : (at : ℕ → Registers) (code : List Step) → IsSettled at code → IsSettled at (lean at code)
 lean_settled at code settled label r i =
     settled label r (sym (lean_live at (place code label) r) ∙ ap (λ (xs : List Step). live at xs r) (sym (lean_place at code label)) ∙ i)
@@ -124,7 +124,7 @@ module _ (arity : ℕ → ℕ) (code : List Step) (at : ℕ → Registers) (sett
       let e : at_steps (labelled r.before (make c.steps)) d.locations c.world c.words ≡ d = λ i. record { steps = sym r.steps i; locations = d.locations; world = r.world i; words = r.words i } in
       subst (Owed (selected_move arity code c) c.steps c.world) e (owes c.steps r.before c.locations d.locations c.world c.words r.short r.agree)
 
--- code that keeps up with a function keeps up without the constants that nobody reads, at a slower rate
+-- if code keeps up with a function, it still does without the constants that no step reads, at a slower rate
 pub lean_tracks : (meaning : Meaning) (f rate slots : ℕ) (code : List Step) (at : ℕ → Registers) → IsSettled at code → ((g : ℕ) → meaning.arity g ≤ 8)
     → TracksForAll meaning f rate (selected_move meaning.arity code) selected_output (selected_start slots code)
     → TracksForAll meaning f (coarser rate (length code)) (selected_move meaning.arity (lean at code)) selected_output (selected_start slots (lean at code))

@@ -1,6 +1,6 @@
 -- Steps that are made from steps, as `lean` and `fused` make them: what both need for a simulation from the old ones to the new ones. Each
--- label keeps its place, so each step that is kept does what it did, between places that correspond. A label is no move, so the new steps
--- may be after labels that the run has passed already (`labelled`).
+-- label keeps its place, so each step that is kept does what it did, between places that correspond. A label is not a move, so the new
+-- steps may be after labels that the run has passed already (`labelled`).
 use Rattle.std.proofs.Common.{◌≡◌, ℕ, ◌<◌, ◌≤◌, ◌⊎◌, List, [], ◌∷◌, ◌++◌, Option, Some, None, true, false, Bool, length, refl, sym, ap, ◌∙◌, subst, inl, inr, arith}
 use Rattle.cc_words.specs.Words.{add}
 use Rattle.cc_words.specs.Operators.{apply_binary}
@@ -109,7 +109,7 @@ module _ (arity : ℕ → ℕ) (code : List Step) (make : List Step → List Ste
     abbrev pub same : Configuration → Configuration → Type 0
     same = Same arity code at settled few
 
-    -- after some labels, the steps that are made from the old ones, with locations that agree on what is live
+    -- the new run is at the steps made from those of the old one, after some labels, and the locations agree on what is live
     pub record Plain (c d : Configuration) : Type 0 where
       pub before : List ℕ
       pub steps : d.steps ≡ labelled before (make c.steps)
@@ -182,7 +182,7 @@ module _ (arity : ℕ → ℕ) (code : List Step) (make : List Step → List Ste
             plain (selected_start slots code words ws h) (selected_start slots (make code) words ws h)
             (record { before = []; steps = refl; agree = record { registers = λ r e. refl; slots = λ i. refl }; world = refl; words = refl; short = omega arith })
 
-        -- code that keeps up with a function keeps up as what is made from it, at a slower rate
+        -- if code keeps up with a function, what is made from the code does too, at a slower rate
         pub tracks_made : (meaning : Meaning) (f rate slots : ℕ) → TracksForAll meaning f rate old selected_output (selected_start slots code)
             → TracksForAll meaning f (coarser rate (length code)) new selected_output (selected_start slots (make code))
         tracks_made meaning f rate slots keeps =

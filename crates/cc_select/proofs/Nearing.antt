@@ -1,5 +1,5 @@
 -- The steps with accesses to nearby elements do, one for one, what the steps without them do. The known sum holds (`Holds`), so an access
--- whose register has the sum may have the other register and the word instead. At a label nothing is known, so the steps of a place are
+-- whose register has the sum may use the other register and the word instead. At a label nothing is known, so the steps of a place are
 -- those that are made there with nothing known.
 use Rattle.std.proofs.Common.{◌≡◌, ℕ, suc, ◌+◌, ◌<◌, ◌≤◌, List, [], ◌∷◌, ◌++◌, Option, Some, None, true, false, Bool, length, get_or, drop, refl, sym, ap, ap₂, ◌∙◌, subst, append_assoc, arith}
 use Rattle.std.proofs.lemmas.Int.{ints}
@@ -65,7 +65,7 @@ immediate_holds Add to from w v z l h e = summed_holds to from w v l (let q : ad
 immediate_holds Sub to from w v z l h e = summed_holds to from (neg w) v l (let q : sub (l (Register from)) w ≡ v = cc in sym q ∙ sub_turned (l (Register from)) w)
 immediate_holds o to from w v z l h e = unless_holds to v z l h
 
--- the number that a register has
+-- if a register has a known sum, its word is that of the other register plus the added word
 sum_says : (z : Option Sum) (r : ℕ) (l : Locations) (s : Sum) → Holds z l → sum_in z r ≡ Some s → l (Register r) ≡ add (l (Register s.from)) s.word
 sum_says None r l s h e = none_some s e
 sum_says (Some t) r l s h e = by (r == t.to) (eqb_says r t.to) e
@@ -206,7 +206,7 @@ module _ (arity : ℕ → ℕ) (code : List Step) where
 
 -- ---- the whole
 
--- code that keeps up with a function keeps up with accesses to nearby elements, at the same rate
+-- if code keeps up with a function, it still does with accesses to nearby elements, at the same rate
 pub near_tracks : (meaning : Meaning) (f rate slots : ℕ) (code : List Step) → TracksForAll meaning f rate (selected_move meaning.arity code) selected_output (selected_start slots code)
     → TracksForAll meaning f rate (selected_move meaning.arity (nearer None code)) selected_output (selected_start slots (nearer None code))
 near_tracks meaning f rate slots code keeps d below ws h is_call n =

@@ -92,7 +92,7 @@ keep_ends steps sets at kept noted le w =
 
 -- ---- a truth value's branch
 
--- the branches of a step if it makes a truth value, and if it makes none
+-- the branches of a step if it computes a truth value, and if it does not
 abbrev Branches : Option Truth → (Test → Option Step) → Type 0
 Branches None f = (v : Test) → f v ≡ None
 Branches (Some t) f = (v : Test) → f v ≡ (if t.register == v.register then Some (t.branch v.nonzero v.to) else None)
@@ -150,7 +150,7 @@ branches _ = λ v. refl
 
 -- ---- a step joined with the test after it
 
--- a branch in place of a step and the test, or the step
+-- a branch in place of a step and the test after it, or the step unchanged
 abbrev put_branch : Option Step → Step → (done : List Step) → List Step
 put_branch None s done = s ∷ done
 put_branch (Some b) s done = b ∷ behind done
@@ -191,7 +191,7 @@ test_first (One (IfNonzero r n)) steps = refl
 test_first (One (IfZero r n)) steps = refl
 test_first _ steps = refl
 
--- a test makes no truth value
+-- a test computes no truth value
 test_alone : (t : Table) (next : Step) (steps : List Step) (v : Test) → test_in next ≡ Some v → fused t (next ∷ steps) ≡ next ∷ fused t steps
 test_alone t (One (IfNonzero r n)) steps v e = joined_by t (One (IfNonzero r n)) None (λ w. None) (test_of steps) steps (fused t steps) (λ w. refl) ∙ alone (test_of steps)
   where
@@ -230,7 +230,7 @@ fused_some t s b (next ∷ steps) e =
 
 -- ---- the walk
 
--- the steps so far, and what the others become
+-- the steps so far, followed by what the others become, are all the steps
 abbrev pub Joined : Table → (steps : List Step) (at : ℕ) (found : List Step) → Type 0
 Joined t steps at found = found ++ fused t (drop at steps) ≡ fused t steps
 

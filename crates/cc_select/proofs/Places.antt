@@ -1,5 +1,5 @@
--- Lists of steps: what holds where a branch leads; that places and labels lie after a step that is no label; and that no step leads to more
--- steps than the code has.
+-- Lists of steps: what holds where a branch leads; that places and labels lie after a step that is not a label; and that no step leads to
+-- more steps than the code has.
 use Rattle.std.proofs.Common.{◌≡◌, ℕ, ◌≤◌, List, [], ◌∷◌, Option, Some, None, true, false, Bool, length, refl, arith}
 use Rattle.std.specs.Prelude.{◌==◌}
 use Rattle.cc_words.specs.Words.{add}
@@ -26,7 +26,7 @@ pub led_alike : (P : List Step → List Step → Type 0) (nonzero : Bool) (w : �
 led_alike P true w on there on' there' p q = if_alike P (w == 0) on there on' there' p q
 led_alike P false w on there on' there' p q = if_alike P (w == 0) there on there' on' q p
 
--- ---- a step that is no label
+-- ---- a step that is not a label
 
 abbrev pub IsThere : Step → Type 0
 IsThere (One (Label l)) = ⊥

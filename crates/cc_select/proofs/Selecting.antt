@@ -57,7 +57,7 @@ keeps_up_selected mode unit f slots items limits distinct (rate, keeps) = (
   λ meaning is. selected_tracks meaning f rate slots items distinct (few_of_meaning unit meaning limits is) (keeps meaning is),
 )
 
--- with what `TypedUnit::externals` says about the unit's limits
+-- a pair of Linear becomes a pair of Selected, given what `TypedUnit::externals` says about the unit's limits
 pub pair_selected : (p : above.Pair) → above.IsPair p → IsWithinLimits (above.tree_of p) → IsPair (record { mode = p.mode; unit = p.unit; function = p.function; ltl = p.ltl; code = selected p.code })
 pair_selected p is limits =
     let unit = above.tree_of p in

@@ -1,6 +1,6 @@
 -- The table of labels as a vector: one sweep, one more step at a time, from the back; the check, which notes what is live after each step;
--- and the sweeps until one fits. Everything is about the 32 registers: what a set has for a number depends on what the sets after it have
--- for that number.
+-- and the sweeps until one fits. Only the 32 registers matter: whether a set has a number depends only on whether the sets after it have
+-- that number.
 use Rattle.std.proofs.Common.{◌≡◌, ℕ, zero, suc, ◌+◌, ◌-◌, ◌<◌, ◌≤◌, List, [], ◌∷◌, length, get_or, set, drop, refl, sym, ap, ◌∙◌, subst, Bool, true, false, ◌==◌, ◌&&◌, ◌||◌, not, nat_lt, nat_le, if◌then◌else◌, Some, None, inl, inr, arith}
 use Rattle.std.proofs.lemmas.List.{get_or-set_same, get_or-set_other, length-set, drop_more, drop_all}
 use Rattle.std.proofs.lemmas.Bool.{cases_eq}
@@ -58,7 +58,7 @@ live_before_same (StoreNear width object index word from) at at' s s' r h e = cc
 live_before_same (Branch operator nonzero left right to) at at' s s' r h e = (let a = h to in cc)
 live_before_same (BranchImmediate operator nonzero from word to) at at' s s' r h e = (let a = h to in cc)
 
--- a set of bits before a step
+-- the set of bits before a step has the registers that are live there
 pub same_before : (step : Step) (t : Table) (s : Registers) (table : Table) (behind before : bits.Registers) → SameTable table t → Same (holds behind) s → holds before ≡ live_before step table (holds behind) → Same (holds before) (live_before step t s)
 same_before step t s table behind before h e is r lt = ap (λ f. f r) is ∙ live_before_same step table t (holds behind) s r (λ label. h label r lt) (e r lt)
 
@@ -187,7 +187,7 @@ look_begins steps table before behind e long =
       noted = λ t h j d le lt. absurd (omega arith);
     }
 
--- one more step, whose row has everything that is live there
+-- one more step fits if its row has everything that is live there
 pub look_more : (steps : List Step) (table : rows.LiveTable) (at : ℕ) (before before' : bits.Registers) (behind : List bits.Registers) (step : Step) → At steps at step → is_met (table_of table) step (holds before) ≡ true
     → holds before' ≡ live_before step (table_of table) (holds before) → Looking steps table at before behind → Looking steps table (at - 1) before' (set behind (at - 1) before)
 look_more steps table at before before' behind step a met is w =
@@ -211,7 +211,7 @@ look_more steps table at before before' behind step a met is w =
       ];
     }
 
--- a step whose row lacks something that is live there
+-- if a step's row lacks something that is live there, the steps do not fit
 pub look_fails : (steps : List Step) (table : rows.LiveTable) (at : ℕ) (before : bits.Registers) (behind : List bits.Registers) (step : Step) → At steps at step → is_met (table_of table) step (holds before) ≡ false
     → Looking steps table at before behind → (t : Table) → SameTable (table_of table) t → false ≡ fits t steps
 look_fails steps table at before behind step a met w t h =
@@ -231,7 +231,7 @@ settled_more : (n : ℕ) (t : Table) (code : List Step) → 0 < n → settled_in
 settled_more zero t code lt = absurd (omega arith)
 settled_more (suc n) t code lt = (let e : n ≡ suc n - 1 = omega arith in ap (λ k. if fits (swept_rows t code) code then swept_rows t code else settled_in k (swept_rows t code) code) e)
 
--- this many more sweeps, from a table on, give the wanted table
+-- `left` more sweeps, starting from `table`, yield the wanted table
 pub record Settling (steps : List Step) (wanted : Table) (left : ℕ) (table : rows.LiveTable) (behind : List bits.Registers) : Type 0 where
   pub long : length behind ≡ length steps
   pub from : Table

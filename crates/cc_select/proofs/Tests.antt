@@ -29,7 +29,7 @@ target_of (IfNonzero r m) = m
 target_of (IfZero r m) = m
 target_of i = 0
 
--- whether a test leads there
+-- whether a test leads to its label
 abbrev pub leads : LinearItem → Locations → Bool
 leads (IfNonzero r m) l = not (l (Register r) == 0)
 leads (IfZero r m) l = l (Register r) == 0
@@ -44,7 +44,7 @@ test_does arity code (IfNonzero r m) items l h ws is = ap (λ xs. Goes (at_items
 test_does arity code (IfZero r m) items l h ws is = refl
 test_does arity code i items l h ws is = absurd is
 
--- ---- what replaces it
+-- ---- what replaces a test
 
 nonzero_known : (z : Option ℕ) → is_taken true z ≡ true → (w : ℕ) × (z ≡ Some w) × ((w == 0) ≡ false)
 nonzero_known None e = absurd (let z : false ≡ true = e in cc)
@@ -82,7 +82,7 @@ test_before_jump (IfNonzero r m) n is = refl
 test_before_jump (IfZero r m) n is = refl
 test_before_jump i n is = absurd is
 
--- ---- where it is
+-- ---- where a test is
 
 -- at the label's place the test is after the label
 pub record Gone (code : List LinearItem) (n : ℕ) (t : LinearItem) : Type 0 where

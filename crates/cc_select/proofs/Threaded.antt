@@ -1,6 +1,6 @@
--- With tests before labels a run keeps up as without them. When it jumps to a label before which a test goes, the jump is made together
--- with the test, so one of the two moves is matched by nothing (`Waiting`). Any other move is matched by one, with what is known
--- (`Normal`).
+-- With tests before labels a run keeps up as it does without them. When the run jumps to a label before which a test goes, the jump is
+-- made together with the test, so one of the two moves is matched by nothing (`Waiting`). Any other move is matched by one, with what
+-- is known (`Normal`).
 use Rattle.std.proofs.Common.{◌≡◌, ℕ, ◌<◌, ◌≤◌, ◌⊎◌, List, [], ◌∷◌, ◌++◌, Option, Some, None, Bool, true, false, refl, sym, ap, ◌∙◌, subst, inl, inr, arith}
 use Rattle.std.specs.Prelude.{if◌then◌else◌, ◌==◌}
 use Rattle.cc_words.specs.Operators.{apply_unary, apply_binary}
@@ -25,7 +25,7 @@ use Rattle.cc_select.proofs.Tests.{IsTest, target_of, leads, test_does, way_give
 
 -- ---- places
 
--- an item that is no label
+-- an item that is not a label
 abbrev IsNone : LinearItem → Type 0
 IsNone (Label n) = ⊥
 IsNone i = Unit {0}
@@ -89,7 +89,7 @@ module _ (code : List LinearItem) (ts : Tests) (stands : (n : ℕ) (t : LinearIt
       by None e = tt
       by (Some t) e = subst (λ xs. Begins true xs) (sym (behind_label n t items e at)) (stands n t e).test
 
-  -- what is at a label's place
+  -- what the items at a label's place become
   abbrev seen : Option LinearItem → List LinearItem → List LinearItem
   seen None items = threaded_by ts unknown false items
   seen (Some t) [] = []
@@ -130,7 +130,7 @@ module _ (code : List LinearItem) (ts : Tests) (stands : (n : ℕ) (t : LinearIt
   place_is n k false (IfZero r m ∷ items) f g = place_is n k false items f.1 tt
   place_is n k false (i ∷ items) f g = place_is n (known_behind i k) false items f tt
 
-  -- the labels stay, in their order
+  -- the labels stay the same, in the same order
   label_labels : (m : ℕ) (k : Known) (items : List LinearItem) (z : Option LinearItem) → ts m ≡ z → labels (threaded_by ts unknown (is_some z) items) ≡ labels items → labels (before_label k z m ++ threaded_by ts unknown (is_some z) items) ≡ m ∷ labels items
   label_labels m k items None e ih = ap (λ (ls : List ℕ). m ∷ ls) ih
   label_labels m k items (Some t) e ih = none_labels (way k t m) (Label m ∷ threaded_by ts unknown true items) (way_none k t m (stands m t e).test) ∙ ap (λ (ls : List ℕ). m ∷ ls) ih
@@ -183,7 +183,7 @@ module _ (code : List LinearItem) (ts : Tests) (stands : (n : ℕ) (t : LinearIt
       pub moves : new d ≡ does arity made (threaded_by ts known false c.items) c.locations c.world c.words
       pub world : d.world ≡ c.world
 
-    -- at a label before which a test goes; the other run is still at the jump
+    -- the old run is at a label before which a test goes; the new run is still at the jump
     pub record Waiting (c d : Configuration) : Type 0 where
       pub known : Known
       pub holds : Holds known c.locations
@@ -330,7 +330,7 @@ module _ (code : List LinearItem) (ts : Tests) (stands : (n : ℕ) (t : LinearIt
       by_jump_on : (d : Configuration) → leads t l ≡ false → new d ≡ Goes (at_items (place made n) l h ws) → Moves (led (leads t l)) d
       by_jump_on d q m = subst (λ b. Moves (led b) d) (sym q) (advance (led false) (at_items (place made n) l h ws) d m on_at_label)
 
-      -- the test, and the label after it
+      -- the new run makes the test that comes before the label
       entered : (d : Configuration) → new d ≡ does arity made (way k t n ∷ Label n ∷ threaded_by ts unknown false rest) l h ws → Moves (led (leads t l)) d
       entered d =
           way_gives (λ w. new d ≡ does arity made (w ∷ Label n ∷ threaded_by ts unknown false rest) l h ws → Moves (led (leads t l)) d) k l holds n t is (by_jump_there d) (by_jump_on d)
@@ -340,7 +340,7 @@ module _ (code : List LinearItem) (ts : Tests) (stands : (n : ℕ) (t : LinearIt
           by true m = advance (led true) _ d m there
           by false m = advance (led false) _ d m (on (Label n ∷ threaded_by ts unknown false rest) refl)
 
-      -- the test, and the jump to the label after it
+      -- the new run makes the test that comes before a jump to the label
       passed : (d : Configuration) (behind : List LinearItem) → new d ≡ does arity made (before_jump (way k t n) n ++ behind) l h ws → Moves (led (leads t l)) d
       passed d behind =
           way_gives (λ w. new d ≡ does arity made (before_jump w n ++ behind) l h ws → Moves (led (leads t l)) d) k l holds n t is (by_jump_there d) (by_jump_on d)
@@ -357,7 +357,7 @@ module _ (code : List LinearItem) (ts : Tests) (stands : (n : ℕ) (t : LinearIt
             related = inl on_at_label;
           }
 
-      -- the old run comes to the label and makes the test there
+      -- the old run reaches the label and makes the test
       enters : (items : List LinearItem) (m : ℕ) (d : Configuration) → place code n ≡ Label n ∷ items → new d ≡ does arity made (way k t n ∷ Label n ∷ threaded_by ts unknown true items) l h ws → Owes (does arity code items l h ws) m h d
       enters items m d at moves =
           let q : items ≡ t ∷ rest = behind_label n t items e at in
@@ -432,7 +432,7 @@ module _ (code : List LinearItem) (ts : Tests) (stands : (n : ℕ) (t : LinearIt
 pub threaded_labels : (code : List LinearItem) → Distinct (labels code) → labels (threaded code) ≡ labels code
 threaded_labels code distinct = labels_are code (tests code) (gone_tests code) unknown false code (fine_tests code distinct) tt
 
--- code that keeps up with a function keeps up with tests before labels, at a slower rate
+-- if code keeps up with a function, it still does with tests before labels, at a slower rate
 pub threaded_tracks : (meaning : Meaning) (f rate slots : ℕ) (code : List LinearItem) → Distinct (labels code) → TracksForAll meaning f rate (linear_move meaning.arity code) linear_output (linear_start slots code)
     → TracksForAll meaning f (coarser rate 1) (linear_move meaning.arity (threaded code)) linear_output (linear_start slots (threaded code))
 threaded_tracks meaning f rate slots code distinct keeps = made_tracks code (tests code) (gone_tests code) meaning.arity (fine_tests code distinct) meaning f rate slots keeps

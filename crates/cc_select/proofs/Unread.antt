@@ -24,7 +24,7 @@ use Rattle.cc_select.proofs.Places.{led_either}
 
 -- ---- sets
 
--- what is in a set
+-- a register is in a set
 abbrev pub In : Registers → ℕ → Type 0
 In s r = s r ≡ true
 
@@ -46,7 +46,7 @@ agree_less s t l k f g = record { registers = λ r e. g.registers r (f r e); slo
 pub agree_behind : (a : ℕ) (s : Registers) (l k : Locations) → Agree (with a s) l k → Agree s l k
 agree_behind a s l k g = agree_less (with a s) s l k (λ r e. in_more a r s e) g
 
--- the same word is put into the same register
+-- if the same word is written to the same register on both sides, the locations agree on that register too
 put_agrees : (to v w : ℕ) (s : Registers) (l k : Locations) → v ≡ w → Agree (without to s) l k → Agree s (put (Register to) v l) (put (Register to) w k)
 put_agrees to v w s l k e g = record { registers = λ r i. at r i (to == r) refl; slots = g.slots }
   where
@@ -105,7 +105,7 @@ module _ (arity : ℕ → ℕ) (code : List Step) (at : ℕ → Registers) (sett
   pub there : (n : ℕ) (l k : Locations) → Agree (at n) l k → Agreeing (place code n) l k
   there n l k g = agree_less (at n) (live at (place code n)) l k (λ r i. settled n r i) g
 
-  -- where a branch leads
+  -- both runs go on where the branch leads
   led_same : (nonzero : Bool) (w n : ℕ) (ss : List Step) (l k : Locations) (h : World) (ws : List ℕ) → Agree (either (at n) (live at ss)) l k
       → Same (at_steps (led nonzero w ss (place code n)) l h ws) (at_steps (led nonzero w ss (place code n)) k h ws)
   led_same nonzero w n ss l k h ws g =
@@ -126,7 +126,7 @@ module _ (arity : ℕ → ℕ) (code : List Step) (at : ℕ → Registers) (sett
       by None = tt
       by (Some v) = b v
 
-  -- a word is made and put into a register
+  -- if both runs compute the same word, they stay alike when they write it to a register
   made_alike : (x y : Option ℕ) (to : ℕ) (ss : List Step) (l k : Locations) (h : World) (ws : List ℕ) → x ≡ y → Agree (without to (live at ss)) l k
       → Both (tried x (λ w. Goes (at_steps ss (put (Register to) w l) h ws))) (tried y (λ w. Goes (at_steps ss (put (Register to) w k) h ws)))
   made_alike x y to ss l k h ws e g = tried_alike x y (λ w. Goes (at_steps ss (put (Register to) w l) h ws)) (λ w. Goes (at_steps ss (put (Register to) w k) h ws)) e (λ v. same ss _ _ h ws (put_agrees to v v (live at ss) l k refl g))
@@ -139,7 +139,7 @@ module _ (arity : ℕ → ℕ) (code : List Step) (at : ℕ → Registers) (sett
   branch_alike x y nonzero n ss l k h ws e g =
       tried_alike x y (λ w. Goes (at_steps (led nonzero w ss (place code n)) l h ws)) (λ w. Goes (at_steps (led nonzero w ss (place code n)) k h ws)) e (λ v. led_same nonzero v n ss l k h ws g)
 
-  -- what an item with two registers reads
+  -- if locations agree on the two registers that an item reads, the item reads the same words
   first_of_two : (a b : ℕ) (s : Registers) (l k : Locations) → Agree (with a (with b s)) l k → l (Register a) ≡ k (Register a)
   first_of_two a b s l k g = g.registers a (in_with a (with b s))
 

@@ -1,4 +1,4 @@
--- The operators on a register and a word: which words each can have, what each does, and which operators of Linear have such a form.
+-- The operators on a register and a word: which words each can encode, what each does, and which operators of Linear have such a form.
 use Rattle.std.specs.Prelude.{ℕ, ◌+◌, ◌-◌, ◌%◌, ◌^◌, Bool, true, false, ◌&&◌, ◌||◌, not, ◌==◌, nat_lt, if◌then◌else◌, Option, Some, None}
 use Rattle.std.specs.Int.{w32, trailing_zeros}
 use Rattle.cc_words.specs.Words.{add, neg}
@@ -48,13 +48,13 @@ applied false o a w = apply_binary o a w
 abbrev pub apply_immediate : WordOperator → (register word : ℕ) → Option ℕ
 apply_immediate o a w = applied (is_exchanged o) (operator_of o) a w
 
--- ---- which words it can have
+-- ---- which words an operator can encode
 
 -- whether the word fits in an instruction's immediate: -2048 to 2047 in two's complement
 abbrev pub is_short : (word : ℕ) → Bool
 is_short w = nat_lt ((w + 2 ^ 11) % 2 ^ 32) (2 ^ 12)
 
--- whether the operator's instructions can have the word
+-- whether the operator's instructions can encode the word
 abbrev pub has_word : WordOperator → (word : ℕ) → Bool
 has_word Add w = is_short w
 -- a difference is the sum with the word's negative
@@ -69,7 +69,7 @@ has_word Xor w = is_short w
 has_word Eq w = is_short (neg w)
 has_word Ne w = is_short (neg w)
 has_word LtS w = is_short w
--- the machine extends the immediate with its sign here too, before it compares it as unsigned
+-- the machine sign-extends the immediate here too, before the unsigned comparison
 has_word LtU w = is_short w
 -- a word is at most w exactly if it is less than w + 1; 2^31 - 1 is the greatest signed word, and the word after it is not short
 has_word LeS w = is_short (add w 1)
@@ -101,7 +101,7 @@ abbrev pub if_power : (word : ℕ) → Form → Option Form
 if_power w form = if is_power w then Some form else None
 
 -- the form with the word on the right; if the word is 2^k, a product is a shift to the left by k, an unsigned quotient a shift to the right
--- by k, and an unsigned remainder the word's k lowest digits
+-- by k, and an unsigned remainder a mask of the k lowest bits
 abbrev pub immediate_of : binary.Binary → (word : ℕ) → Option Form
 immediate_of operators.Add w = Some (Add, w)
 immediate_of operators.Sub w = Some (Sub, w)
@@ -122,8 +122,8 @@ immediate_of operators.DivU w = if_power w (ShrU, exponent w)
 immediate_of operators.RemU w = if_power w (And, w - 1)
 immediate_of operator w = None
 
--- the form with the word on the left: the same if the order of operands makes no difference; "the word is less than the register's" is "the
--- register's is more than the word"
+-- the form with the word on the left: as on the right if the order of operands makes no difference; "the word is less than the register's"
+-- is "the register's is more than the word"
 abbrev pub immediate_of_left : binary.Binary → (word : ℕ) → Option Form
 immediate_of_left operators.Add w = Some (Add, w)
 immediate_of_left operators.And w = Some (And, w)
@@ -148,7 +148,7 @@ is_comparison operators.LeS = true
 is_comparison operators.LeU = true
 is_comparison o = false
 
--- whether a branch on such a comparison with the word takes fewer instructions than the comparison and a branch on its value: one if the
+-- whether a branch on a comparison with the word needs fewer instructions than the comparison and a branch on its value: one if the
 -- comparison is with 0, and for others two instead of three
 abbrev pub gains : WordOperator → (word : ℕ) → Bool
 gains Eq w = true

@@ -1,6 +1,6 @@
--- The steps for a function's items, one for each. An operation with an operand that is a known constant has it as a word, if its
--- instructions can have that word. An access to an element whose number is known has the number. A branch that is certain to be taken is a
--- jump. What is known about a register is what the items since the last label say.
+-- The steps for a function's items, one for each. An operation with a known constant as an operand has the constant as its word, if its
+-- instructions can encode the word. An access to an element whose number is known has the number in it. A branch that is certain to be
+-- taken is a jump. What is known about a register is what the items since the last label say.
 use Rattle.std.specs.Prelude.{ℕ, Bool, true, false, not, if◌then◌else◌, ◌==◌, Option, Some, None, List, [], ◌∷◌}
 use Rattle.cc_words.specs.declared.operators.Binary as binary
 use Rattle.cc_simulation.specs.Unknown.{survives}
@@ -26,8 +26,8 @@ forget to k r = if to == r then None else k r
 abbrev pub learn : (register word : ℕ) → Known → Known
 learn to w k r = if to == r then Some w else k r
 
--- what is known after an item; nothing is known after a label, since a run may come there from elsewhere, nor after an item from
--- which a run does not go on to the next one
+-- what is known after an item; nothing is known after a label, since a run may reach it from elsewhere, nor after an item from which a
+-- run does not go on to the next one
 abbrev pub known_behind : LinearItem → Known → Known
 known_behind (Label label) k = unknown
 known_behind (Jump to) k = unknown
@@ -48,7 +48,7 @@ known_behind Return k = unknown
 
 -- ---- what is chosen
 
--- an operator with a word, if it can have the word; else another step
+-- an operator with a word, if its instructions can encode the word; else another step
 abbrev pub with_word : Option Form → (to from : ℕ) → (other : Step) → Step
 with_word None to a s = s
 with_word (Some form) to a s = if has_word form.0 form.1 then Immediate form.0 to a form.1 else s
@@ -73,7 +73,7 @@ is_taken true (Some w) = not (w == 0)
 is_taken false (Some w) = w == 0
 
 -- The step of an item; a word on the right has priority over one on the left. A branch that is certain not to be taken stays, since each
--- item is one step, and no step does nothing.
+-- item becomes one step, and there is no step that does nothing.
 abbrev pub choose : Known → LinearItem → Step
 choose k (IfNonzero from to) = if is_taken true (k from) then One (Jump to) else One (IfNonzero from to)
 choose k (IfZero from to) = if is_taken false (k from) then One (Jump to) else One (IfZero from to)

@@ -2,7 +2,7 @@
 pub mod Immediates
 -- the language: the functions of Selected, and what one step does
 pub mod Selected
--- known words, and the steps that they give
+-- known words, and the steps that are chosen with them
 pub mod Known
 -- known sums, and the accesses to nearby elements
 pub mod Near
@@ -18,5 +18,5 @@ pub mod Selection
 pub mod rows
 -- what a pair keeps
 pub mod Pair
--- what the code keeps
+-- for private contracts and proofs only
 pub mod internal

@@ -1,5 +1,5 @@
--- Which registers are live: those that may be read on some way before they are written. Each call counts as reading x10 to x17. A table
--- gives the registers that are live at each label.
+-- Which registers are live: those that may be read on some path before they are written. Each call counts as reading x10 to x17. A
+-- table has the registers that are live at each label.
 use Rattle.std.specs.Prelude.{ℕ, Bool, false, not, ◌&&◌, ◌||◌, ◌==◌, nat_le, List, [], ◌∷◌}
 use Rattle.cc_simulation.specs.Unknown.{survives}
 use Rattle.cc_ltl.specs.declared.operation.Move.{Move}
@@ -31,7 +31,7 @@ live_move (Between to from) s = with from (without to s)
 live_move (Reload to slot) s = without to s
 live_move (Spill slot from) s = with from s
 
--- the registers in which arguments may be: x10 to x17
+-- the registers in which arguments may be passed: x10 to x17
 abbrev pub is_argument : (register : ℕ) → Bool
 is_argument r = nat_le 10 r && nat_le r 17
 
@@ -63,7 +63,7 @@ live_before (StoreNear width object index word from) at s = with index (with fro
 live_before (Branch operator nonzero left right to) at s = with left (with right (either (at to) s))
 live_before (BranchImmediate operator nonzero from word to) at s = with from (either (at to) s)
 
--- the registers that are live before steps
+-- the registers that are live before these steps
 abbrev pub live : (at_label : ℕ → Registers) → List Step → Registers
 live at [] = nothing
 live at (step ∷ steps) = live_before step at (live at steps)

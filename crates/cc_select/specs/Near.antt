@@ -1,6 +1,6 @@
--- Nearby elements. If the number of an access was made by adding a word to a register, and both registers still hold what they held then,
--- the access is to the element whose number is that register's word plus the added word, so the sum need not be made for it. Only the last
--- such sum is known, within a straight piece.
+-- Nearby elements. If the element number of an access was computed by adding a word to a register, and neither that register nor the
+-- sum's has changed since, the access is to the element whose number is the register's word plus the added word, so the sum need not be
+-- computed. Only the last such sum is known, within straight-line code.
 use Rattle.std.specs.Prelude.{ℕ, ◌||◌, ◌==◌, if◌then◌else◌, Option, Some, None, List, [], ◌∷◌}
 use Rattle.cc_words.specs.Words.{neg}
 use Rattle.cc_ltl.specs.declared.operation.Move.TheVariants.{Between, Reload, Spill}
@@ -19,11 +19,11 @@ abbrev pub unless : (register : ℕ) → Option Sum → Option Sum
 unless r None = None
 unless r (Some s) = if (r == s.to) || (r == s.from) then None else Some s
 
--- the known sum after a sum is put in a register
+-- the known sum after a sum is written to a register
 abbrev pub summed : (to from word : ℕ) → Option Sum
 summed to from word = if to == from then None else Some (record { to = to; from = from; word = word })
 
--- the known sum after an item; no sum is known after a label, since a run may come there from elsewhere, nor after a call
+-- the known sum after an item; no sum is known after a label, since a run may reach it from elsewhere, nor after a call
 abbrev pub sum_item : LinearItem → Option Sum → Option Sum
 sum_item (Label label) z = None
 sum_item (Jump to) z = None
@@ -65,7 +65,7 @@ abbrev pub sum_in : Option Sum → (register : ℕ) → Option Sum
 sum_in None r = None
 sum_in (Some s) r = if r == s.to then Some s else None
 
--- an access by a sum, if it is known; else another step
+-- an access to the element whose number is a sum, if the sum is known; else another step
 abbrev pub with_sum : Option Sum → (other : Step) → (access : Sum → Step) → Step
 with_sum None other access = other
 with_sum (Some s) other access = access s

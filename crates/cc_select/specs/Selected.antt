@@ -25,7 +25,7 @@ labels (One (Label label) ∷ steps) = label ∷ labels steps
 labels (step ∷ steps) = labels steps
 
 -- a step of a function with `slots` slots, in a unit with `functions` functions: jumps and branches lead to labels of the list, the
--- operator of a branch is a comparison, and each word of an operator is one that its instructions can have
+-- operator of a branch is a comparison, and each word of an operator is one that its instructions can encode
 abbrev pub IsStep : (slots functions : ℕ) → (labels : List ℕ) → Step → Type 0
 IsStep slots functions labels (One item) = IsItem slots functions labels item
 IsStep slots functions labels (Immediate operator to from word) = IsAllocatable to × IsAllocatable from × IsWord word × (has_word operator word ≡ true)
@@ -37,7 +37,7 @@ IsStep slots functions labels (Branch operator nonzero left right to) = (is_comp
 IsStep slots functions labels (BranchImmediate operator nonzero from word to) =
     (is_comparison (operator_of operator) ≡ true) × IsAllocatable from × IsWord word × (has_word operator word ≡ true) × Contains labels to
 
--- no label occurs twice
+-- there are few enough slots, no label occurs twice, and each step is a step of a function with these slots
 pub record IsSelected (slots functions : ℕ) (steps : List Step) : Type 0 where
   pub few : slots ≤ most_slots
   pub distinct : AllPairs (λ (a b : ℕ). a ≢ b) (labels steps)
@@ -66,14 +66,14 @@ place (step ∷ steps) label = place steps label
 abbrev pub steps_after_answer : List Step → Locations → (words : List ℕ) → Answer → Configuration
 steps_after_answer steps at words a = at_steps steps (put result_location a.value (after_call words at)) a.world (left_after_call words)
 
--- where a branch leads, given its word: to the label's place if the word is not 0 (`nonzero`), or if it is 0 (not `nonzero`);
--- else on
+-- where a branch leads, given its word: to the label's place if the word is not 0 (`nonzero`), or if it is 0 (not `nonzero`); else to the
+-- next step
 abbrev pub led : (nonzero : Bool) → (word : ℕ) → (on there : List Step) → List Step
 led true word on there = if word == 0 then on else there
 led false word on there = if word == 0 then there else on
 
--- What the next step does; `code` has all the steps, and `arity` says how many parameters each function has. A label is no move:
--- the step after it is executed. A run goes wrong after the last step, and if a jump leads to no place.
+-- What the next step does; `code` has all the steps, and `arity` says how many parameters each function has. A label is not a move: the
+-- step after it is executed. A run goes wrong after the last step, and if a jump leads to no place.
 abbrev pub does : (arity : ℕ → ℕ) → (code : List Step) → List Step → Locations → World → (words : List ℕ) → Moving Configuration
 does arity code [] at world words = Fails
 does arity code (One (Label label) ∷ steps) at world words = does arity code steps at world words

@@ -1,6 +1,6 @@
--- What is live at labels, found by sweeps from the back of the list. A sweep uses the rows that it has just made for labels
--- further on, and those of the last sweep for labels before. The first table in which a check finds everything that is live at
--- each label's place is taken; if 32 sweeps give none, everything is live at each label.
+-- What is live at labels, found by sweeps from the back of the list. A sweep uses the rows that it has just made for labels further on,
+-- and those of the last sweep for labels before. The table used is the first in which a check finds everything that is live at each
+-- label's place; if 32 sweeps yield none, everything is live at each label.
 use Rattle.std.specs.Prelude.{ℕ, zero, suc, Bool, true, not, ◌&&◌, ◌||◌, ◌==◌, nat_le, if◌then◌else◌, List, [], ◌∷◌}
 use Rattle.cc_linear_language.specs.declared.item.LinearItem.TheVariants.{Label}
 use Rattle.cc_select.specs.declared.step.Step.{Step}

@@ -1,6 +1,6 @@
--- Jump threading. A test directly after a label goes before the label and into each jump there, if only jumps lead to the label; so the
+-- Jump threading. A test directly after a label goes before the label and into each jump to it, if only jumps lead to the label; so the
 -- label's place is after the test. If the word that is tested is known, the test becomes a jump. C's `a && b` needs this: 0 or the value of
--- `b` is put in a register, and that register is tested where the two ways meet.
+-- `b` is put in a register, and that register is tested where the two paths meet.
 use Rattle.std.specs.Prelude.{ℕ, Bool, true, false, ◌||◌, if◌then◌else◌, ◌==◌, Option, Some, None, List, [], ◌∷◌, ◌++◌}
 use Rattle.cc_linear_language.specs.declared.item.LinearItem.{LinearItem}
 use Rattle.cc_linear_language.specs.declared.item.LinearItem.TheVariants.{Label, Jump, IfNonzero, IfZero}
@@ -37,7 +37,7 @@ tests items n = if branches_to items n then None else test_behind items n
 
 -- ---- what an item becomes
 
--- a test before a jump to a label, or before the label itself: it is a jump if the word is known
+-- what a test becomes before a jump to a label, or before the label itself: a jump, if the word is known
 abbrev pub way : Known → (test : LinearItem) → (label : ℕ) → LinearItem
 way k (IfNonzero from to) n = if is_taken true (k from) then Jump to else (if is_taken false (k from) then Jump n else IfNonzero from to)
 way k (IfZero from to) n = if is_taken false (k from) then Jump to else (if is_taken true (k from) then Jump n else IfZero from to)
@@ -75,8 +75,7 @@ abbrev pub is_before_gone : Tests → LinearItem → Bool
 is_before_gone ts (Label n) = is_some (ts n)
 is_before_gone ts item = false
 
--- the items with tests before labels, given what is known before them, and whether the first one is a test that was moved before
--- its label
+-- the items with tests before labels, given what is known before them, and whether the first one is a test that was moved before its label
 abbrev pub threaded_by : Tests → Known → (gone : Bool) → List LinearItem → List LinearItem
 threaded_by ts k gone [] = []
 threaded_by ts k true (item ∷ items) = threaded_by ts k false items

@@ -15,7 +15,7 @@ use cc_ltl::Register;
 use cc_words::{Binary, Unary};
 use std::alloc::{AllocError, Global};
 
-// A test: its register, whether it is for nonzero, and where it leads.
+// A test: its register, whether it leads to its label if the register is not 0 (`nonzero`) or if it is 0, and the label.
 #[derive(Clone, Copy)]
 struct Test {
     register: Register,
@@ -42,7 +42,7 @@ fn test_in(step: &Step) -> Option<Test>
     }
 }
 
-// The branch on whether a register is 0 (`nonzero`), or is not.
+// The branch that replaces a step that tests whether a register is 0, together with the test of that step's result.
 fn branch_on_zero(from: Register, test: Test) -> Step
     ensures { result ≡ branch_on_zero from (shown test) }
 {

@@ -1,4 +1,4 @@
-// The operators on a register and a word: which words each can take, and which operators of Linear have such a form.
+// The operators on a register and a word: which words each can encode, and which operators of Linear have such a form.
 
 ghost use Rattle.std.specs.Prelude.{◌≡◌};
 ghost use Rattle.cc_select.specs.Immediates.{is_short, has_word, is_power, immediate_of, immediate_of_left, is_comparison, gains};
@@ -13,7 +13,7 @@ fn is_short(word: u32) -> bool
     word.wrapping_add(2048) < 4096
 }
 
-/// Whether the operator's instructions can have the word as an immediate.
+/// Whether the operator's instructions can encode the word as an immediate.
 pub(crate) fn has_word(operator: WordOperator, word: u32) -> bool
     ensures { result ≡ has_word operator word }
 {
@@ -42,8 +42,8 @@ fn is_power(word: u32) -> bool
     exponent < 32 && word == 1 << exponent
 }
 
-/// The form of an operator with a word on its right: an operator on a register and a word. That word can be a different one:
-/// `x % 8` is `x & 7`.
+/// The form of an operator with a word on its right: an operator on a register and a word. The word of the form can differ from
+/// `word`: `x % 8` is `x & 7`.
 pub(crate) fn immediate_of(operator: Binary, word: u32) -> Option<(WordOperator, u32)>
     ensures { result ≡ immediate_of operator word }
 {
@@ -90,7 +90,7 @@ pub(crate) fn immediate_of_left(operator: Binary, word: u32) -> Option<(WordOper
     }
 }
 
-/// Whether the operator compares.
+/// Whether the operator is a comparison.
 pub(crate) fn is_comparison(operator: Binary) -> bool
     ensures { result ≡ is_comparison operator }
 {
@@ -100,7 +100,7 @@ pub(crate) fn is_comparison(operator: Binary) -> bool
     )
 }
 
-/// Whether a branch on a comparison by this operator with the word takes fewer instructions than the comparison and a branch on
+/// Whether a branch on a comparison by this operator with the word needs fewer instructions than the comparison and a branch on
 /// its value.
 pub(crate) fn gains(operator: WordOperator, word: u32) -> bool
     ensures { result ≡ gains operator word }

@@ -1,6 +1,6 @@
-// Known words: what the items since the last label say about the registers. An operation with a known operand gets it as a word, if its
-// instructions can have it; an access to an element whose number is known gets the number; and a branch that is certain to be taken becomes
-// a jump.
+// Known words: what the items since the last label say about the registers. An operation with a known operand gets the operand's word, if
+// its instructions can encode the word; an access to an element whose number is known gets the number; and a branch that is certain to be
+// taken becomes a jump.
 
 ghost use Rattle.std.specs.Prelude.{◌≡◌, ◌<◌, None, Some};
 ghost use Rattle.cc_select.specs.Known.{unknown, learn, forget, known_behind, choose, is_taken, with_left, with_number, with_right, with_word};
@@ -33,7 +33,7 @@ impl Known {
         }
     }
 
-    /// The word of a register, if one is known.
+    /// The word of a register, if it is known.
     pub(crate) fn word(&self, register: Register) -> Option<u32>
         ensures { result ≡ known_in self.now register }
     {
@@ -112,7 +112,7 @@ impl Known {
     }
 }
 
-// The step for an operator with a word, if its instructions can have the word; else `other`.
+// The step for an operator with a word, if its instructions can encode the word; else `other`.
 fn with_word(form: Option<(WordOperator, u32)>, to: Register, from: Register, other: Step) -> Step
     ensures { result ≡ with_word form to from other }
 {
@@ -199,7 +199,7 @@ pub(crate) fn is_taken(nonzero: bool, word: Option<u32>) -> bool
     }
 }
 
-/// The step of an item.
+/// The step that is chosen for an item.
 pub(crate) fn choose(known: &Known, item: LinearItem) -> Step
     ensures { result ≡ choose (known_in known.now) item }
 {

@@ -1,6 +1,6 @@
-// Nearby elements. If the number of an access was made by adding a word to a register, and both registers still hold what they held then,
-// the access is to the element whose number is that register's word plus the added word. So the sum need not be made for it, and accesses
-// to nearby elements share one register. Only the last such sum is known.
+// Nearby elements. If the element number of an access was computed by adding a word to a register, and neither that register nor the
+// sum's has changed since, the access is to the element whose number is the register's word plus the added word. So the sum need not be
+// computed, and accesses to nearby elements share one register. Only the last such sum is known.
 
 ghost use Rattle.std.specs.Prelude.{◌≡◌, IfOk, None};
 ghost use Rattle.cc_select.specs.Near.{unless, summed, sum_item, sum_behind, sum_in, with_sum, near, nearer};
@@ -21,7 +21,7 @@ pub(crate) struct Sum {
     word: u32,
 }
 
-// The known sum after the register with a number is written.
+// The known sum after register number `register` is written.
 fn unless(register: u8, known: &Option<Sum>) -> Option<Sum>
     ensures { result ≡ unless register known.now }
 {
@@ -37,7 +37,7 @@ fn unless(register: u8, known: &Option<Sum>) -> Option<Sum>
     }
 }
 
-// The known sum after a sum is put in a register.
+// The known sum after a sum is written to a register.
 fn summed(to: Register, from: Register, word: u32) -> Option<Sum>
     ensures { result ≡ summed to from word }
 {
@@ -119,7 +119,7 @@ fn sum_in(known: &Option<Sum>, register: Register) -> Option<Sum>
     }
 }
 
-// A load with the sum in its index, if the sum is known; else `other`.
+// A load from the element whose number is the sum, if the sum is known; else `other`.
 fn near_load(sum: &Option<Sum>, width: Width, object: u32, to: Register, other: Step) -> Step
     ensures { result ≡ with_sum sum.now other (λ s. LoadNear width object to s.from s.word) }
 {
@@ -135,7 +135,7 @@ fn near_load(sum: &Option<Sum>, width: Width, object: u32, to: Register, other: 
     }
 }
 
-// A store with the sum in its index, if the sum is known; else `other`.
+// A store into the element whose number is the sum, if the sum is known; else `other`.
 fn near_store(sum: &Option<Sum>, width: Width, object: u32, value: Register, other: Step) -> Step
     ensures { result ≡ with_sum sum.now other (λ s. StoreNear width object s.from s.word value) }
 {
@@ -172,7 +172,7 @@ fn near_item(known: &Option<Sum>, item: LinearItem) -> Step
     }
 }
 
-// The step to use for this one, given the sum that is known before it.
+// The step that replaces `step`, given the sum that is known before it.
 fn near(known: &Option<Sum>, step: Step) -> Step
     ensures { result ≡ near known.now step }
 {

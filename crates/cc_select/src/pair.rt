@@ -18,7 +18,7 @@ use std::marker::Model;
 use std::sync::Arc;
 
 /// The steps of one function of a typed unit. Contracts see the unit, the function's number, the LTL and the steps. The type carries the
-/// fact that their run keeps up with the function, whatever the unknown words are, so no pair exists for which this is false.
+/// fact that the run of the steps keeps up with the function, whatever the unknown words are. No pair exists for which this is false.
 #[derive(Drop)]
 pub struct SelectedPair {
     mode: Mode,
@@ -87,7 +87,7 @@ impl SelectedPair {
         self.function
     }
 
-    /// The number of slots in its frame: at most 495, as many as the LTL has.
+    /// The number of slots in the function's frame: as many as the LTL has, and at most 495.
     pub fn slots(&self) -> u16
         ensures answer { result ≡ self.now.ltl.slots }
         ensures few { self.now.ltl.slots ≤ most_slots }
@@ -96,7 +96,7 @@ impl SelectedPair {
     }
 
     /// The steps. No label occurs twice, each label to which a jump or a branch leads is in the list, each call is of a function of the
-    /// unit, and each word of an operator is one that its instructions can have. The run keeps up with the function, for every list of
+    /// unit, and each word of an operator is one that its instructions can encode. The run keeps up with the function, for every list of
     /// words that unknown locations may hold.
     pub fn code(&self) -> &[Step]
         ensures code { result.now ≡ self.now.code }
@@ -107,7 +107,7 @@ impl SelectedPair {
         self.code.as_slice()
     }
 
-    /// The unit's owner and the LTL, from which the piece is made.
+    /// The unit and the LTL, from which the piece is made.
     pub fn into_parts(self) -> (Arc<TypedUnit>, Ltl)
         ensures unit { arc_value result.0 ≡ self.unit }
         ensures ltl { result.1 ≡ self.ltl }

@@ -13,7 +13,7 @@ pub(crate) const DESTROYED: u8 = 17;
 // The registers that a call keeps: x8, x9 and x18 to x27.
 const SURVIVORS: u32 = 0x0FFC_0300;
 
-// The registers in which arguments may be: x10 to x17.
+// The registers in which arguments may be passed: x10 to x17.
 const ARGUMENTS: u32 = 0x0003_FC00;
 
 /// A set of registers: one bit for each.
@@ -44,7 +44,7 @@ impl Registers {
         Registers { bits: 1 << RESULT }
     }
 
-    /// Whether the register with a number is in the set.
+    /// Whether register number `register` is in the set.
     pub(crate) fn has(self, register: u8) -> bool
         requires { register < 32 }
         ensures { result ≡ holds self register }
@@ -99,7 +99,7 @@ impl Registers {
         }
     }
 
-    /// Whether another set has each of its registers.
+    /// Whether each register of this set is in another set.
     pub(crate) fn lies_within(self, other: Registers) -> bool
         ensures { result ≡ within (holds self) (holds other) }
     {

@@ -1,4 +1,4 @@
-// The pass: the steps of a pair of Linear.
+// The pass: it selects the steps of a pair of Linear.
 
 ghost use Rattle.std.specs.Prelude.{◌≡◌, IfOk};
 ghost use Rattle.cc_ast.specs.Source.{source};
@@ -16,7 +16,7 @@ use cc_linear_language::{LinearItem, LinearPair};
 use cc_types::TypedUnit;
 use std::alloc::{AllocError, Global};
 
-// The steps without the constants that nobody reads, with each comparison and its test as one.
+// The steps without the constants that no step reads, and with comparisons and their tests joined.
 fn trimmed(alloc: Global, steps: &[Step]) -> Result<Vec<Step>, AllocError>
     ensures { IfOk result (λ made. made.items ≡ trimmed steps.now) }
 {
@@ -47,9 +47,9 @@ fn is_within_limits(unit: &TypedUnit)
 }
 
 /// The steps of a function of a unit, as `specs/Selection.antt` defines them: at most one for each item of Linear, and one more for each
-/// jump. The answer's type says that their run keeps up with the function. The pair keeps the LTL as well.
+/// jump. The answer's type keeps the fact that the run of the steps keeps up with the function. The pair has the LTL as well.
 ///
-/// It fails only if memory runs out (40); the pair is dropped then.
+/// This fails only if memory runs out (40); the pair is then dropped.
 pub fn select(alloc: Global, pair: LinearPair) -> Result<SelectedPair, AllocError>
     ensures mode { IfOk result (λ made. made.mode ≡ pair.mode) }
     ensures unit { IfOk result (λ made. made.unit ≡ pair.unit) }

@@ -4,8 +4,8 @@ use cc_linear_language::LinearItem;
 use cc_ltl::Register;
 use cc_words::{Binary, Width};
 
-/// The operators on a register and a word: those that take fewer instructions this way than with the word in a register, if
-/// nothing else reads it there. `has_word` of `specs/Immediates.antt` says which words each can have.
+/// The operators on a register and a word: those that need fewer instructions this way than with the word in a register, if
+/// nothing else reads that register. `has_word` of `specs/Immediates.antt` says which words each can encode.
 #[derive(Clone, Copy)]
 pub enum WordOperator {
     Add,
@@ -42,14 +42,14 @@ pub enum Step {
         from: Register,
         word: u32,
     },
-    /// A load of the element with that number.
+    /// A load of the element with this number.
     LoadAt {
         width: Width,
         object: u32,
         to: Register,
         number: u32,
     },
-    /// A store into the element with that number.
+    /// A store into the element with this number.
     StoreAt {
         width: Width,
         object: u32,
@@ -72,7 +72,7 @@ pub enum Step {
         word: u32,
         from: Register,
     },
-    /// Goes on at a label if a comparison of two registers gives 1 (`nonzero`) or 0 (not `nonzero`), else at the next step.
+    /// Goes on at a label if a comparison of two registers yields 1 (`nonzero`) or 0 (not `nonzero`), else at the next step.
     Branch {
         operator: Binary,
         nonzero: bool,

@@ -1,6 +1,7 @@
 // The table of labels. Each sweep goes over the steps from the back and notes what is live at labels, using what the last sweep
-// found. The pass takes the first table in which a check finds everything that is live at each label's place; if 32 sweeps give
-// none, everything is live at each label. The check notes what is live after each step, which the passes need.
+// found. The pass uses the first table in which a check finds, for each label, everything that is live at the label's place. If
+// none of 32 sweeps yields such a table, everything counts as live at each label. The check notes what is live after each step,
+// which the passes need.
 
 ghost use Rattle.std.specs.Prelude.{◌≡◌, length, IfOk, true};
 ghost use Rattle.cc_select.specs.Table.{Table, table, rows, fits};
@@ -23,7 +24,7 @@ pub(crate) struct Settled {
     pub(crate) behind: Vec<Registers>,
 }
 
-// The label, if the step is one.
+// The label, if the step is a label.
 fn label_of(step: &Step) -> Option<u32>
     ensures { result ≡ label_of step.now }
 {
@@ -50,7 +51,7 @@ fn sweep(table: &mut LiveTable, steps: &[Step]) -> Result<(), AllocError>
     Ok(())
 }
 
-// Whether a label's row has everything that is live there.
+// If the step is a label, whether the label's row has everything that is live there.
 fn is_met(table: &LiveTable, step: &Step, live: Registers) -> bool
     ensures { result ≡ is_met (table_of table.now) step.now (holds live) }
 {

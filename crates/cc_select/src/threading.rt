@@ -1,6 +1,5 @@
-// Jump threading: a test directly after a label goes before the label and into each jump there, if only jumps lead to the label.
-// So a truth value is tested where it is made, and if the value is known, a jump replaces the test. The same walk chooses the
-// steps of the items.
+// Jump threading: a test directly after a label goes before the label and into each jump to it, if only jumps lead to the label. So a truth
+// value is tested where it is computed, and if the value is known, a jump replaces the test. The same walk chooses the steps of the items.
 //
 // Two walks make the table of these tests. The first goes from the back and finds the test after each label; the second clears
 // the labels to which branches lead.
@@ -157,7 +156,7 @@ fn push_label(steps: &mut Vec<Step>, tests: &Tests, known: &Known, label: u32)
     steps.push_reserved(Step::One(LinearItem::Label { label }));
 }
 
-// Pushes the step of an item, and a jump to a label after it unless the item is `alone`.
+// Pushes the step of an item and then, unless `alone` is true, a jump to a label.
 fn push_step(steps: &mut Vec<Step>, known: &Known, item: LinearItem, label: u32, alone: bool)
     requires { vec_len steps.old + 2 ≤ vec_capacity steps.old }
     ensures { steps.new.items ≡ steps.old.items ++ chosen (known_in known.now) (item ∷ (if alone then [] else Jump label ∷ [])) }

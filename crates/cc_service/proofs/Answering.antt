@@ -48,7 +48,7 @@ there : (b : Bool) (made : Units) → reply.Absent ≡ reply_of_change (if b the
 there true made is = cc
 there false made is = cc
 
--- what the map's reply says about the change that it refuses
+-- if the map's reply is Exists, the change adds a name
 exists_is : (units : Units) (command : Command) → reply.Exists ≡ reply_of units (Change command) → refusal_of command ≡ reply.Exists
 exists_is units (commands.Add name unit) is = refl
 exists_is units (commands.Replace name unit) is = absurd (not_there (contains_key units name) (insert units name unit) is)
@@ -77,7 +77,7 @@ module _ {D : Type 0} (failures : D → ℕ) (before : BookView D) (old : Member
 
 -- ---- what the service answers
 
--- for this change, if the call asks for it
+-- what is known of exactly this change, stated for a change that the call may ask for
 module _ (Asks : Command → Type 0) (command : Command) (asked : Asks command) (old new : MemberView) where
   pub entered_as : (answer : Reply) (receipt : Receipt) → IsEntered (λ c. c ≡ command) old answer new receipt → IsEntered Asks old answer new receipt
   entered_as answer receipt e = record { command = command; asked = asked; answered = subst (λ (c : Command). IsAnswered old (Change c) answer new receipt) e.asked e.answered }
@@ -126,7 +126,7 @@ past_text command old new (Err ImageTooLarge) none = tt
 past_text command old new (Err OutOfMemory) none = tt
 past_text command old new (Err (Changed receipt)) none = tt
 
--- why a text was not handed in is a reason why it was not compiled
+-- a reason why a text was not handed in is a reason why it was not compiled
 pub not_prepared : (mode : Mode) (text : List ℕ) (fault : ServiceFault) → IsNotPrepared text fault → IsCompileRefusal mode text fault
 not_prepared mode text (Text f) e = e
 not_prepared mode text WorkersGone e = e
@@ -139,7 +139,7 @@ not_prepared mode text BadName none = none
 not_prepared mode text (Book f) none = none
 not_prepared mode text (Changed receipt) none = none
 
--- what is answered for a text that was not compiled
+-- if a text was not compiled, and the client is unchanged, the fault is an answer of `put`
 pub not_put : (mode : Mode) (Asks : Command → Type 0) (name source : List ℕ) (old new : MemberView) → IsTrue (is_name name) → new ≡ old → (fault : ServiceFault) → IsCompileRefusal mode source fault → PutAnswers mode Asks name source old new (Err fault)
 not_put mode Asks name source old new named same (Text f) e = (named, e, same)
 not_put mode Asks name source old new named same (Piece function f) e = (named, e, same)

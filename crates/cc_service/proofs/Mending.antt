@@ -1,4 +1,4 @@
--- What the client sees of a commit that compacts if this makes room.
+-- What the client sees of a commit that may compact first.
 use Rattle.std.proofs.Common.{◌≡◌, ◌⊎◌, inl, inr, IfOk, IfErr, Result, Ok, Err, sym, subst}
 use Rattle.cc_disk.specs.declared.disk.Disk.{Ghosts}
 use Rattle.cc_history.specs.Calls.{Command}
@@ -31,7 +31,7 @@ module _ {Disk : Type 0} (D : Ghosts Disk) where
       behind between (Ok done) commits = turned_down_where_err D.failures between old command after_it new result commits.0
       behind between (Err fault) commits = subst (λ (r : Result Receipt BookFault). IfErr r (λ f. IsTurnedDown (λ c. c ≡ command) old new f)) (sym commits.0) commits.2
 
-  -- what becomes of the book
+  -- the book is changed as by a plain commit, or after a compaction
   pub changed_or_compacted : (before after_it : BookView Disk) (old new : MemberView) (command : Command) (result : Result Receipt BookFault) → CompactingAnswers D before old command after_it new result
       → ChangesAtOnce D command before after_it → AllRecover D after_it → IsBookChanged D before old command after_it new result ⊎ IsCompactedFor D before old command after_it new result
   changed_or_compacted before after_it old new command result answers moments kept =

@@ -1,5 +1,5 @@
--- An update is a look and a change with no other call between them: after a look that found the unit, the book refuses the change with none of 32, 36
--- and 39; and what the client sees of an update.
+-- An update is a look-up and a change with no other call in between: after a look-up that found the unit, the book does not
+-- refuse the change with 32, 36 or 39. Then what the client sees of an update.
 use Rattle.std.proofs.Common.{◌≡◌, ◌∙◌, ◌⊎◌, inl, inr, ℕ, ◌+◌, ◌-◌, Bool, true, false, IsTrue, IfOk, IfErr, List, [], ◌∷◌, ◌++◌, length, Option, Some, None, Result, Ok, Err, append_assoc, refl, sym, ap, subst, arith}
 use Rattle.std.specs.Prelude.{IfSome, if◌then◌else◌, is_some, slice_get}
 use Rattle.std.specs.FinMap.{contains_key, get, insert}
@@ -70,12 +70,12 @@ last_receipt receipts receipt =
     let one : length (receipts ++ receipt ∷ []) - 1 ≡ length receipts = omega (arith, n) in
     ap (λ (k : ℕ). slice_get (receipts ++ receipt ∷ []) k) one ∙ last_of receipts receipt
 
--- a name that is there is not absent
+-- if a name is there, a change that needs it is not answered with Absent
 there_not : (c : Bool) (made : Units) → c ≡ true → reply.Absent ≡ reply_of_change (if c then Ok made else Err absent) → ⊥
 there_not true made is e = cc
 there_not false made is e = cc
 
--- what the book may answer to the change
+-- the book may refuse the change with this fault
 abbrev May : BookFault → Type 0
 May (book.Exists receipt) = ⊥
 May (book.Absent receipt) = ⊥
@@ -86,14 +86,14 @@ May book.DiskFault = Unit {0}
 May book.OutOfMemory = Unit {0}
 
 module _ {Disk : Type 0} (D : Ghosts Disk) where
-  -- a change is refused with none of 36, 39 and 32
+  -- no change of this name is refused with 36, 39 or 32
   record IsReady (b : BookView Disk) (name : List ℕ) (heard : MemberView) : Type 0 where
     idle : b.library.closed ≡ false
     unit : StoredUnit
     found : get b.library.units name ≡ Some unit
     stands : LastStands b.history heard.receipts
 
-  -- after a look-up the book is ready
+  -- after a look-up that found the unit, the book is ready
   ready_after : (before between : BookView Disk) (old heard : MemberView) (name : List ℕ) (seen : Receipt) (unit : StoredUnit) → before.library.closed ≡ false
       → LookAnswers before old (Fetch name) between heard (Ok seen) → get before.library.units name ≡ Some unit → IsReady between name heard
   ready_after before between old heard name seen unit idle looked found =
@@ -108,7 +108,7 @@ module _ {Disk : Type 0} (D : Ghosts Disk) where
         stands = λ receipt is. subst (λ (o : Option Receipt). IfSome o (λ r. Stands between.history r)) (sym mine ∙ is) entered;
       }
 
-  -- and after a compaction it is ready too
+  -- if a book is ready, it is also ready after a compaction
   ready_on : (b c : BookView Disk) (name : List ℕ) (heard : MemberView) (done : Unit {0}) → CompactAnswers D.failures b c (let r : Result (Unit {0}) BookFault = Ok done in r) → IsReady b name heard → IsReady c name heard
   ready_on b c name heard done it ready = record {
     idle = ap (λ (x : BookView Disk). x.library.closed) it.3;
@@ -149,7 +149,7 @@ module _ {Disk : Type 0} (D : Ghosts Disk) where
       behind c (Ok done) commits = turned_down_where_err D.failures c heard command after_it new answer commits.0
       behind c (Err why) commits = subst (λ (r : Result Receipt BookFault). IfErr r (λ f. IsTurnedDown (λ c. c ≡ command) heard new f)) (sym commits.0) commits.2
 
-  -- the change has an entry, whose number is the next one
+  -- the entry of the change is the next one of the history
   change_entered : (b after_it : BookView Disk) (heard new : MemberView) (command : Command) (receipt : Receipt)
       → IsBookChanged D b heard command after_it new (Ok receipt) ⊎ IsCompactedFor D b heard command after_it new (Ok receipt)
       → IsEntered (λ c. c ≡ command) heard reply.Done new receipt × (receipt.number ≡ length b.history + 1)
@@ -165,7 +165,7 @@ module _ {Disk : Type 0} (D : Ghosts Disk) where
 
   -- ---- what an update leaves on the disk
 
-  -- a look that was refused leaves the book as it was
+  -- a look-up that was refused leaves the book as it was
   pub look_leaves : (before after_it : BookView Disk) (old new : MemberView) (asked : Asked) (fault : BookFault) → LookAnswers before old asked after_it new (Err fault) → after_it ≡ before
   look_leaves before after_it old new asked (book.Estranged number found) it = it.1
   look_leaves before after_it old new asked book.OutOfMemory it = it.0
@@ -175,14 +175,15 @@ module _ {Disk : Type 0} (D : Ghosts Disk) where
   look_leaves before after_it old new asked book.Closed it = absurd it
   look_leaves before after_it old new asked book.DiskFault it = absurd it
 
-  -- a book to which nothing happened is as required, whatever change was asked for
+  -- if the book is unchanged, a crash leaves what it may leave during a change, whatever that change is
   pub nothing_at_once : (before after_it : BookView Disk) (command : Command) → after_it ≡ before
       → (IsTrue D.honest → (image : List ℕ) → D.left_since before.library.disk (D.moment before.library.disk) image → D.may_leave before.library.disk image) → AllRecover D before
       → (before.library.closed ≡ false → before.failed ≡ []) → ChangesAtOnce D command before after_it
   nothing_at_once before after_it command same only_now images idle =
       subst (λ (b : BookView Disk). ChangesAtOnce D command before b) (sym same) (no_call_between D before (after before.library.units command) only_now images idle)
 
-  -- what holds for a change holds for a look and then that change, since a look leaves the library as it was
+  -- what a crash may leave during a change, it may leave during a look-up and then that change, since a look-up leaves the
+  -- library as it was
   pub at_once_after : (before between after_it : BookView Disk) (command : Command) → between.library ≡ before.library → ChangesAtOnce D command between after_it → ChangesAtOnce D command before after_it
   at_once_after before between after_it command same moments =
       subst (λ (l : View Disk). IsTrue D.honest → l.closed ≡ false → LeavesOnly D.moment D.left_since l.disk after_it.library.disk (RecoversOneOf l.units (after l.units command))) same moments
@@ -196,7 +197,7 @@ module _ {Disk : Type 0} (D : Ghosts Disk) where
 
   -- ---- for a book
 
-  -- an update whose look-up was refused
+  -- if the look-up of an update was refused, the update is answered with that refusal
   pub look_refused : (before after_it : BookView Disk) (old new : MemberView) (name expected : List ℕ) (command : Command) (fault : BookFault) → before.library.closed ≡ false
       → LookAnswers before old (Fetch name) after_it new (Err fault) → UpdatesBook D before old name expected command after_it new (Err (Book fault))
   look_refused before after_it old new name expected command (book.Estranged number found) idle it = (idle, it.0, it.1, it.2)
@@ -222,7 +223,7 @@ module _ {Disk : Type 0} (D : Ghosts Disk) where
     replied : seen.entry.reply ≡ reply_of_found (get before.library.units name)
     replied = ap (λ (e : Entry). e.reply) looked.0.answered.entry
 
-    -- if nothing came after the look-up
+    -- if nothing was done after the look-up, the look-up's result still holds
     still : after_it ≡ between → new ≡ heard → LookAnswers before old (Fetch name) after_it new (Ok seen)
     still same_book same_member =
         subst (λ (b : BookView Disk). LookAnswers before old (Fetch name) b new (Ok seen)) (sym same_book)
@@ -317,7 +318,7 @@ module _ {Disk : Type 0} (D : Ghosts Disk) where
   updates_by before after_it old new name expected command (Err ImageTooLarge) none = none
   updates_by before after_it old new name expected command (Err OutOfMemory) none = none
 
-  -- what was done is on the disk
+  -- an update that was answered with Ok is on the disk
   pub update_stored : (base : Units) (from : ℕ) (left : List ℕ → Type 0) (before after_it : BookView Disk) (old new : MemberView) (name expected : List ℕ) (command : Command) (result : Result Receipt ServiceFault)
       → UpdatesBook D before old name expected command after_it new result → IsSound D base from left after_it → IfOk result (λ receipt. IsStored D base from left receipt)
   update_stored base from left before after_it old new name expected command (Ok receipt) it sound =
@@ -350,7 +351,7 @@ update mode name expected source made old new of named program (Err WorkersGone)
 update mode name expected source made old new of named program (Err ImageTooLarge) none = absurd none
 update mode name expected source made old new of named program (Err OutOfMemory) none = absurd none
 
--- what is answered for a text that was not compiled
+-- if a text was not compiled, and the client is unchanged, the fault is an answer of `update`
 pub not_updated : (mode : Mode) (name expected source : List ℕ) (old new : MemberView) → IsTrue (is_name name) → new ≡ old → (fault : ServiceFault) → IsCompileRefusal mode source fault
     → UpdateAnswers mode name expected source old new (Err fault)
 not_updated mode name expected source old new named same (Text f) e = (named, e, same)

@@ -23,18 +23,18 @@ pub record IsProgram (text : List ℕ) : Type 0 where
   pub is : IsProgramText text tree
 
 -- What a pass has sent after a text was compiled or refused: what it had sent before; and, if the text is a program, the first functions of
--- one job of it, in the order of their definitions and each once.
+-- one job for it, in the order of their definitions and each once.
 abbrev pub HasSentFor : (text : List ℕ) → (before after : List Item) → Type 0
 HasSentFor text before after = (after ≡ before) ⊎ ((tree : List External) × IsProgramText text tree × HasSentSome before after (length (functions tree)))
 
--- The text is a program, and all functions of one job of it were handed in, in the order of their definitions, each once, and nothing else.
+-- The text is a program, and all functions of one job for it were handed in, in the order of their definitions, once each, and no others.
 pub record HasHandedIn (text : List ℕ) (before after : List Item) : Type 0 where
   pub tree : List External
   pub program : IsProgramText text tree
   pub job : ℕ
   pub sent : after ≡ before ++ pieces_of job (length (functions tree))
 
--- Why a text is not handed in: it is not a program; 41, if it is a program; 40.
+-- Why a text is not handed in: it is not a program; or, if it is one, 41; or 40.
 abbrev pub IsNotPrepared : List ℕ → ServiceFault → Type 0
 IsNotPrepared text (Text f) = IsTextRefusal text f
 IsNotPrepared text WorkersGone = IsProgram text
@@ -47,8 +47,8 @@ IsNotPrepared text ImageTooLarge = ⊥
 IsNotPrepared text (Book f) = ⊥
 IsNotPrepared text (Changed receipt) = ⊥
 
--- A text that is not a program is refused as such. Only a program can have another fault: 22 or 24 for the first function that has no piece
--- in the mode; 41; 25 if linking refuses with it, given pieces of all functions.
+-- Why a text is not compiled: it is not a program; or, if it is one, 22 or 24 for the first function that has no piece in the mode, 41, or
+-- 25, if linking refuses with 25, given pieces of all functions; or, whatever the text, 40.
 abbrev pub IsCompileRefusal : Mode → List ℕ → ServiceFault → Type 0
 IsCompileRefusal mode text (Text f) = IsTextRefusal text f
 IsCompileRefusal mode text (Piece function f) = IsProgram text × IsJobRefusal mode text (pool.Piece function f)

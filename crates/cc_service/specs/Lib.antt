@@ -11,11 +11,11 @@ pub mod Compiling
 pub mod Serving
 -- the answers of an update, which looks before it changes
 pub mod Updating
--- what a change that was answered has done to the book
+-- how a change that was answered has changed the book
 pub mod Stored
 -- how much of its area the library takes
 pub mod Space
--- what serves private contracts
+-- definitions for private contracts
 pub mod internal
 -- Pages of lower crates that clauses here cite, re-exported.
 pub use Rattle.cc_recorded.specs.Book

@@ -1,8 +1,8 @@
--- What a service begins with, by name, before a type names it.
+-- The ledger and the queue with which a service begins, before a type names them.
 use Rattle.std.specs.Prelude.{ℕ}
 use Rattle.cc_pool.specs.Queue.{QueueName}
 
--- which ledger and which queue
+-- the names of a ledger and of a queue
 pub record Names : Type 0 where
   pub ledger : ℕ
   pub queue : QueueName

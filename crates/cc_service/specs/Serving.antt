@@ -1,5 +1,5 @@
--- What a call of a service answers, as its client sees it. No client can name the value under the lock at that moment; the book's calls say
--- what becomes of it.
+-- What a call of a service answers, as its client sees it. No client can name the value under the lock at that moment; the contracts of the
+-- book's calls say how it changes.
 use Rattle.std.specs.Prelude.{◌≡◌, ◌≢◌, ℕ, ◌-◌, Bool, IsTrue, List, length, Option, Some, slice_get, Result, Ok, Err}
 use Rattle.cc_library.specs.unit.StoredUnit.{StoredUnit}
 use Rattle.cc_c_semantics.specs.declared.mode.Mode.{Mode}
@@ -27,17 +27,16 @@ use Rattle.cc_service.specs.declared.fault.ServiceFault.TheVariants.{Opening, Ba
 
 -- ---- what a call asks of the book
 
--- the unit was compiled from this source in this mode: its image agrees with it, and follows on every input what the program shows in the
--- mode
+-- the unit was compiled from this source in this mode: its image agrees with the source, and follows what the program shows in the mode
 abbrev pub IsOf : Mode → (source : List ℕ) → StoredUnit → Type 0
 IsOf mode source unit = (unit.source ≡ source) × Agree unit.source unit.image × AgreeIn mode unit.source unit.image
 
--- such a unit of this source is added under this name
+-- a unit compiled from this source in the mode is added under this name
 abbrev pub Adds : Mode → (name source : List ℕ) → Command → Type 0
 Adds mode name source (Add n unit) = (n ≡ name) × IsOf mode source unit
 Adds mode name source _ = ⊥
 
--- such a unit of this source replaces the name's unit
+-- a unit compiled from this source in the mode replaces the name's unit
 abbrev pub Replaces : Mode → (name source : List ℕ) → Command → Type 0
 Replaces mode name source (Replace n unit) = (n ≡ name) × IsOf mode source unit
 Replaces mode name source _ = ⊥
@@ -52,7 +51,7 @@ abbrev pub Withdraws : (name : List ℕ) → Command → Type 0
 Withdraws name (Withdraw n) = n ≡ name
 Withdraws name _ = ⊥
 
--- how the map refuses a change: 31 if a name is to be added, 32 if one must be there
+-- how the map refuses a change: with 31 if it adds a name, with 32 if it needs a name that is there
 abbrev pub refusal_of : Command → Reply
 refusal_of (Add n unit) = reply.Exists
 refusal_of (Replace n unit) = reply.Absent
@@ -60,13 +59,13 @@ refusal_of (Withdraw n) = reply.Absent
 
 -- ---- the answers
 
--- one of these changes was asked for and answered like this, and the receipt is the client's last
+-- a change that `Asks` allows was made and answered like this, and the receipt is the client's last
 pub record IsEntered (Asks : Command → Type 0) (old : MemberView) (answer : Reply) (new : MemberView) (receipt : Receipt) : Type 0 where
   pub command : Command
   pub asked : Asks command
   pub answered : IsAnswered old (Change command) answer new receipt
 
--- the number is that of the client's last receipt, and what was found there in the history is not the receipt's entry
+-- the number is that of the client's last receipt, and what the history has at that number is not the receipt's entry
 pub record IsOfAnother (old : MemberView) (number : ℕ) (found : Option Entry) : Type 0 where
   pub last : Receipt
   pub is_last : slice_get old.receipts (length old.receipts - 1) ≡ Some last
@@ -83,8 +82,7 @@ IsTurnedDown Asks old new book.DiskFault = new ≡ old
 IsTurnedDown Asks old new book.Closed = new ≡ old
 IsTurnedDown Asks old new book.OutOfMemory = new ≡ old
 
--- The answer to `add` or `replace`: 33 exactly if the bytes are not a name; then, for a name, why the text was not compiled; then, for a
--- program, what the book answers.
+-- `add` or `replace`: 33 exactly if the bytes are not a name; then why the text was not compiled; or, for a program, the book's answer.
 abbrev pub PutAnswers : Mode → (Asks : Command → Type 0) (name source : List ℕ) (old new : MemberView) → Result Receipt ServiceFault → Type 0
 PutAnswers mode Asks name source old new (Ok receipt) = IsTrue (is_name name) × IsProgram source × IsEntered Asks old reply.Done new receipt
 PutAnswers mode Asks name source old new (Err BadName) = (¬ IsTrue (is_name name)) × (new ≡ old)
@@ -109,7 +107,7 @@ IsTurnedAway old new (book.Estranged number found) = IsOfAnother old number foun
 IsTurnedAway old new book.OutOfMemory = new ≡ old
 IsTurnedAway old new _ = ⊥
 
--- `get` is refused in the same way, and also with 32, which has a receipt, if the name has no unit
+-- how `get` is refused: as a look-up is, and also with 32, which has a receipt, if the name has no unit
 abbrev pub IsNotFound : (name : List ℕ) (old new : MemberView) → BookFault → Type 0
 IsNotFound name old new (book.Absent receipt) = IsAnswered old (Fetch name) reply.Absent new receipt
 IsNotFound name old new (book.Estranged number found) = IsTurnedAway old new (book.Estranged number found)
@@ -146,8 +144,7 @@ IsNotCompacted book.Closed = Unit {0}
 IsNotCompacted book.OutOfMemory = Unit {0}
 IsNotCompacted _ = ⊥
 
--- Why a service is not opened: what the library's opening answers; if that is Ok, 41 or 40 from the workers, and an honest disk's bytes
--- then recover to this map.
+-- why a service is not opened: what the library's opening answers; or 41 or 40 from the workers, if an honest disk recovers to this map
 abbrev pub IsNotOpened : (honest : Bool) (seen : List ℕ) (base : Units) (before after : ℕ) → ServiceFault → Type 0
 IsNotOpened honest seen base before after (Opening f) = OpenFaults honest seen before after f
 IsNotOpened honest seen base before after WorkersGone = (after ≡ before) × (IsTrue honest → Recovers seen base)
@@ -160,9 +157,9 @@ IsNotStarted WorkersGone = Unit {0}
 IsNotStarted OutOfMemory = Unit {0}
 IsNotStarted _ = ⊥
 
--- Why a service is not ended: 40; or 39, and then there is a history, legal from the map with which the service began. Either a receipt
--- of these clients does not match it: the fault has the first such one, together with what is there instead. Or these are not all the
--- clients that were made.
+-- Why a service is not ended: 40; or 39, and then there is a history, legal from the map with which the service began. Either a receipt of
+-- these clients does not match that history: the fault has the first such receipt's number, and what is there instead. Or these are not all
+-- the clients that were made.
 pub record IsNotEnded (honest : Bool) (base : Units) (clients : List MemberView) (fault : ServiceFault) : Type 0 where
   pub found : Units
   pub found_is : IsTrue honest → found ≡ base

@@ -11,7 +11,7 @@ use Rattle.cc_recorded.specs.declared.fault.BookFault.TheVariants.{Closed}
 use Rattle.cc_service.specs.declared.fault.ServiceFault.{ServiceFault}
 use Rattle.cc_service.specs.declared.fault.ServiceFault.TheVariants.{Book}
 
--- the figures are those of an area with some records, and of the map to which these lead; the only refusal is 36
+-- the figures are those of an area, some records in it, and some map; the only refusal is 36
 abbrev pub SpaceAnswers : Result SpaceUse ServiceFault → Type 0
 SpaceAnswers (Ok space) = (area : ℕ) × (bodies : List (List ℕ)) × (map : Units) × IsSpace area bodies map space
 SpaceAnswers (Err fault) = fault ≡ Book Closed

@@ -1,4 +1,4 @@
--- What a change that was answered has done to the book under the lock at that moment. No client can name that book, so a clause says that
+-- How a change that was answered has changed the book under the lock at that moment. No client can name that book, so a clause says that
 -- there was one.
 use Rattle.std.specs.Prelude.{◌≡◌, ℕ, IsTrue, List, Some}
 use Rattle.cc_disk.specs.declared.disk.Disk.{Ghosts}
@@ -10,7 +10,7 @@ use Rattle.cc_recorded.specs.Book.{BookView}
 use Rattle.cc_recorded.specs.Promise.{IsSound}
 
 -- At the moment of the answer there was a book of this service, which keeps what every book of the service keeps, and the call was one of
--- its entries. What a crash left then recovers to the map that all of its entries make of the first map, and to no other.
+-- its entries. What a crash left at that moment recovers to the first map with the changes of all these entries, and to no other map.
 pub record IsStored {Disk : Type 0} (D : Ghosts Disk) (base : Units) (from : ℕ) (left : List ℕ → Type 0) (receipt : Receipt) : Type 0 where
   pub book : BookView Disk
   pub sound : IsSound D base from left book

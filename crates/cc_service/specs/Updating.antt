@@ -1,6 +1,6 @@
--- What an update answers: a new unit replaces the one under a name if the old one's source is the expected one. It is a look-up of the
--- name and the change, with no other call between them: the look-up leaves the library of the book as it was, and in the history the
--- change has the number after the look-up's.
+-- What an update answers: a new unit replaces the one under a name if the old unit's source is the expected one. An update is a look-up of
+-- the name and then the change, with no other call in between: the look-up leaves the book's library as it was, and in the history the
+-- change comes right after the look-up.
 use Rattle.std.specs.Prelude.{◌≡◌, ◌≢◌, ◌⊎◌, ℕ, ◌+◌, true, false, IsTrue, List, Some, None, Result, Ok, Err}
 use Rattle.std.specs.FinMap.{get}
 use Rattle.cc_disk.specs.declared.disk.Disk.{Ghosts}
@@ -28,8 +28,7 @@ use Rattle.cc_service.specs.declared.fault.ServiceFault.TheVariants.{Opening, To
 -- ---- for a book
 
 module _ {Disk : Type 0} (D : Ghosts Disk) where
-  -- The look-up found that the name's unit has the expected source, and left the library as it was; the change came next, and was answered
-  -- like this.
+  -- The look-up found that the name's unit has the expected source, and left the library as it was; the change came next, with this answer.
   pub record IsUpdate (before : BookView Disk) (old : MemberView) (name expected : List ℕ) (command : Command) (after : BookView Disk) (new : MemberView) (answer : Result Receipt BookFault) : Type 0 where
     pub seen : Receipt
     pub between : BookView Disk
@@ -48,8 +47,8 @@ module _ {Disk : Type 0} (D : Ghosts Disk) where
     pub other : unit.source ≢ expected
 
   -- In this order: 36 exactly if the device has failed before, 39 exactly if the client's last receipt does not match the history, 32
-  -- exactly if the name has no unit, 60 exactly if its unit has another source, then what the change answers: 34, 35. 40 may come from the
-  -- look-up on.
+  -- exactly if the name has no unit, 60 exactly if its unit has another source, then what the change answers: 34, 35. The look-up or the
+  -- change may also answer 40.
   abbrev pub UpdatesBook : (before : BookView Disk) (old : MemberView) (name expected : List ℕ) → Command → (after : BookView Disk) (new : MemberView) → Result Receipt ServiceFault → Type 0
   UpdatesBook before old name expected command after new (Ok receipt) = (before.library.closed ≡ false) × IsUpdate before old name expected command after new (Ok receipt)
   UpdatesBook before old name expected command after new (Err (Changed seen)) = (before.library.closed ≡ false) × IsOtherThere before old name expected after new seen
@@ -75,14 +74,13 @@ module _ {Disk : Type 0} (D : Ghosts Disk) where
 
 -- ---- as the client sees it
 
--- the name's unit was asked for and found, with a source that has this property, and the receipt is the client's last
+-- the name's unit was looked up and found, `Holds` is true of its source, and the receipt is the client's last
 pub record HasFound (name : List ℕ) (Holds : (source : List ℕ) → Type 0) (old new : MemberView) (seen : Receipt) : Type 0 where
   pub unit : StoredUnit
   pub holds : Holds unit.source
   pub answered : IsAnswered old (Fetch name) (reply.Unit unit) new seen
 
--- The unit was found with the expected source, and the change, which was made, is the next entry of the history: no call of another client
--- is between them.
+-- The unit had the expected source, and the change is the next entry of the history: no other client's call is between the two.
 pub record IsUpdated (Asks : Command → Type 0) (name expected : List ℕ) (old new : MemberView) (receipt : Receipt) : Type 0 where
   pub seen : Receipt
   pub heard : MemberView
@@ -90,12 +88,11 @@ pub record IsUpdated (Asks : Command → Type 0) (name expected : List ℕ) (old
   pub entered : IsEntered Asks heard reply.Done new receipt
   pub next : receipt.number ≡ seen.number + 1
 
--- the unit was found with that source, and no change was made
+-- the unit was found with the expected source, and no change was made
 abbrev pub HasLooked : (name expected : List ℕ) (old new : MemberView) → Type 0
 HasLooked name expected old new = (seen : Receipt) × HasFound name (λ source. source ≡ expected) old new seen
 
--- how the book refuses an update: 32 with the receipt of the look-up; 34 and 35 after a look-up that found the source; 40 before the
--- look-up or after it; 36 and 39 before it
+-- how the book refuses an update: 36, 39 before the look-up; 32 with its receipt; 34, 35 after it found the expected source; 40 at any time
 abbrev pub IsNotUpdated : (name expected : List ℕ) (old new : MemberView) → BookFault → Type 0
 IsNotUpdated name expected old new (book.Absent seen) = IsAnswered old (Fetch name) reply.Absent new seen
 IsNotUpdated name expected old new (book.Estranged number found) = IsOfAnother old number found × (new ≡ old)
@@ -106,7 +103,7 @@ IsNotUpdated name expected old new book.OutOfMemory = (new ≡ old) ⊎ HasLooke
 IsNotUpdated name expected old new (book.Exists receipt) = ⊥
 
 -- The answer to `update`: 33 exactly if the bytes are not a name; then, for a name, why the text was not compiled; then, for a program,
--- what the book answers, 60 with the receipt of the look-up that found another source.
+-- what the book answers; 60 has the receipt of the look-up that found another source.
 abbrev pub UpdateAnswers : Mode → (name expected source : List ℕ) (old new : MemberView) → Result Receipt ServiceFault → Type 0
 UpdateAnswers mode name expected source old new (Ok receipt) = IsTrue (is_name name) × IsProgram source × IsUpdated (Replaces mode name source) name expected old new receipt
 UpdateAnswers mode name expected source old new (Err BadName) = (¬ IsTrue (is_name name)) × (new ≡ old)

@@ -13,7 +13,7 @@ pub struct Found {
     receipt: Receipt,
 }
 
-// Written by hand, so that crates above call it and need not prove again how each part is dropped.
+// Written by hand, so that the crates above call it instead of proving again how each part is dropped.
 impl Drop for Found {
     fn drop(self) {
         let Found { receipt } = self;
@@ -39,14 +39,14 @@ impl Found {
         Found { receipt }
     }
 
-    /// The receipt. The call takes no memory.
+    /// The receipt. The call needs no memory.
     pub fn receipt(&self) -> &Receipt
         ensures { result.now ≡ self.now }
     {
         &self.receipt
     }
 
-    /// The unit. The call takes no memory.
+    /// The unit. The call needs no memory.
     pub fn unit(&self) -> &SharedUnit
         ensures { self.now.entry.reply ≡ reply.Unit result.now }
     {
@@ -62,7 +62,7 @@ pub struct Listing {
     receipt: Receipt,
 }
 
-// Written by hand, so that crates above call it and need not prove again how each part is dropped.
+// Written by hand, so that the crates above call it instead of proving again how each part is dropped.
 impl Drop for Listing {
     fn drop(self) {
         let Listing { receipt } = self;
@@ -88,14 +88,14 @@ impl Listing {
         Listing { receipt }
     }
 
-    /// The receipt. The call takes no memory.
+    /// The receipt. The call needs no memory.
     pub fn receipt(&self) -> &Receipt
         ensures { result.now ≡ self.now }
     {
         &self.receipt
     }
 
-    /// The names. The call takes no memory.
+    /// The names. The call needs no memory.
     pub fn names(&self) -> &NameList
         ensures { self.now.entry.reply ≡ reply.Names result.now }
     {

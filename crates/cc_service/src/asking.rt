@@ -28,7 +28,7 @@ pub(crate) enum Compared {
     NoUnit,
     // A unit with a source other than the expected one.
     Other,
-    // One with that source.
+    // A unit with the expected source.
     Same,
 }
 
@@ -48,7 +48,7 @@ fn comparison_of(seen: &Receipt, expected: &[u8]) -> Compared
 
 impl<N: Named> Client<N> {
     /// Makes a change of the book: with `commit_compacting` if the client's changes compact, else with `commit`. The contracts of these
-    /// say what becomes of the book.
+    /// two calls say how the book changes.
     #[tactic(auto, using(crate::proofs::Answering::entered_where_ok, crate::proofs::Answering::turned_down_where_err, crate::proofs::Mending::compacting_entered, crate::proofs::Mending::compacting_turned_down))]
     pub fn change<D: Disk>(
         &mut self,
@@ -91,11 +91,10 @@ impl<N: Named> Client<N> {
         book.look(alloc, &mut self.member, asked)
     }
 
-    /// Replaces the unit under a name if its source is the expected one: this is `look`, and then `change`, with no other call between
-    /// them.
+    /// Replaces the unit under a name if its source is the expected one: this is `look` and then `change`, with no other call in between.
     ///
-    /// Refusals, in this order: 36, 39, 32, 60 if the name's unit has another source, 34, 35. 40 if memory ran out. From 32 on the look-up
-    /// has an entry, and its receipt is the client's last.
+    /// Refusals, in this order: 36, 39, 32, 60 if the name's unit has another source, 34, 35. 40 if memory ran out. After 32, 60, 34, 35
+    /// and a 40 of the change, the look-up has an entry, and its receipt is the client's last.
     pub fn update<D: Disk>(
         &mut self,
         alloc: Global,

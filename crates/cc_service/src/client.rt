@@ -12,8 +12,8 @@ use std::alloc::Global;
 use std::marker::Model;
 use std::sync::ledger::Share;
 
-/// The caller. It keeps the receipts of its calls, its share of the ledger counts them, and its pass hands its jobs to the workers.
-/// Contracts see its number and its receipts, and what its pass has sent.
+/// The caller. It has the receipts of its calls, its share of the ledger counts them, and its pass hands its jobs to the workers.
+/// Contracts see its number, its receipts, and what its pass has sent.
 #[derive(Drop)]
 pub struct Client<N: Named> {
     pub(crate) member: Member<N>,
@@ -52,7 +52,7 @@ impl<N: Named> Client<N> {
         }
     }
 
-    /// The same client, but its changes compact the library if they would be refused with 34 now and would not be after a
+    /// The same client, except that its changes compact the library first if they would be refused with 34 now but not after a
     /// compaction, as `Book::commit_compacting` does.
     pub fn compacting(self) -> Client<N>
         ensures { result ≡ self }
@@ -72,22 +72,22 @@ impl<N: Named> Client<N> {
         self.member.number()
     }
 
-    /// The receipts so far. The call takes no memory.
+    /// The receipts so far. The call needs no memory.
     pub fn receipts(&self) -> &[Receipt]
         ensures { result.now ≡ self.now.member.receipts }
     {
         self.member.receipts()
     }
 
-    /// The last receipt. The call takes no memory.
+    /// The last receipt. The call needs no memory.
     pub fn last(&self) -> Option<&Receipt>
         ensures { option_map (λ r. r.now) result ≡ slice_get self.now.member.receipts (length self.now.member.receipts - 1) }
     {
         self.receipts().last()
     }
 
-    /// The bytes that the entries of its receipts after the first `seen` ones count for, as `held_by` counts them. If the caller has seen
-    /// that many receipts, these are the bytes of the new ones.
+    /// How many bytes the entries of its receipts after the first `seen` hold, as `held_by` counts. If the caller has seen `seen`
+    /// receipts, these are the bytes of the new ones.
     pub fn held_since(&self, seen: usize) -> u64
         ensures { result ≡ at_most_told (receipts_bytes (drop seen self.now.member.receipts)) }
     {

@@ -17,8 +17,8 @@ use cc_recorded::{Book, BookFault, Ended};
 use std::alloc::{AllocError, Global};
 use std::sync::ledger::Share;
 
-/// What remains of a service: the map with which it began, its library, the history, and the receipts of each client, in the order of the
-/// clients.
+/// What remains of a service: the map with which it began, its library, the history, and the receipts of each client, in the clients'
+/// order.
 #[derive(Drop)]
 pub struct Closed<D: Disk> {
     pub base: UnitMap,
@@ -37,7 +37,7 @@ pub(crate) struct Left<N: Named> {
 }
 
 impl<N: Named> Left<N> {
-    // For no client yet, with room for this many. Err: memory ran out.
+    // What clients leave, before any has left anything, with room for this many clients. Err: memory ran out.
     fn with_room(alloc: Global, clients: usize) -> Result<Left<N>, AllocError>
         ensures receipts { IfOk result (λ left. (left.receipts.items ≡ []) × (vec_len left.receipts ≡ 0) × (clients ≤ vec_capacity left.receipts)) }
         ensures passes { IfOk result (λ left. (vec_len left.passes ≡ 0) × (clients ≤ vec_capacity left.passes)) }
@@ -48,7 +48,7 @@ impl<N: Named> Left<N> {
     }
 }
 
-// Takes the shares of all clients, and stores what they leave.
+// Adds the shares of all clients to `rest`, and stores what the clients leave.
 fn gather<N: Named>(rest: &mut Share<N>, clients: Vec<Client<N>>, left: &mut Left<N>)
     requires receipts { (left.old.receipts.items ≡ []) × (vec_len left.old.receipts ≡ 0) × (length clients.items ≤ vec_capacity left.old.receipts) }
     requires passes { (vec_len left.old.passes ≡ 0) × (length clients.items ≤ vec_capacity left.old.passes) }
@@ -68,8 +68,8 @@ fn gather<N: Named>(rest: &mut Share<N>, clients: Vec<Client<N>>, left: &mut Lef
     }
 }
 
-// Ok if a book can be ended with these clients, which have to be as many as were made. The answer is room for what they leave;
-// its memory is taken first.
+// Ok if a book for which `made` clients were made can be ended with these clients. The result has room for what they leave; the memory
+// for it is allocated first.
 pub(crate) fn ready<N: Named, D: Disk>(
     alloc: Global,
     book: &Book<N, D>,
@@ -95,7 +95,7 @@ pub(crate) fn ready<N: Named, D: Disk>(
     }
 }
 
-// Ends a book with its clients. The shares of all clients and the rest are then the whole ledger.
+// Ends a book with its clients. The shares of all clients, with the rest, are the whole ledger.
 pub(crate) fn end<N: Named, D: Disk>(
     book: Book<N, D>,
     mut rest: Share<N>,
@@ -112,7 +112,7 @@ pub(crate) fn end<N: Named, D: Disk>(
     ensures blamed { FailedByDevice D.Disk N.failures (record { base = result.0.base; library = result.0.library; history = result.0.history.items; failed = result.0.failed.items }) }
     ensures closed { IsClosed result.0.history.items (members clients.items) }
     ensures receipts { map (λ v. v.items) result.0.receipts.items ≡ map (λ c. c.receipts) (members clients.items) }
-    // The receipts of each client are of its own calls.
+    // The receipts of each client are those of its own calls.
     ensures own { AreOwn (members clients.items) }
 {
     receipts_count_up();
@@ -137,7 +137,7 @@ pub(crate) fn end<N: Named, D: Disk>(
 /// Ends a book with its clients. `rest`, together with one part for each of the `made` clients, has to be the whole ledger. The clients'
 /// passes are dropped.
 ///
-/// 39 for the first receipt that does not match the history; 39 with the history's length and no entry if these are not all the clients
+/// 39 for the first receipt that does not match the history; 39, with the history's length and no entry, if these are not all the clients
 /// that were made; 40 if memory ran out. In each case everything is handed back.
 pub fn close<N: Named, D: Disk>(
     alloc: Global,

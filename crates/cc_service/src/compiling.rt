@@ -1,4 +1,5 @@
-// From a text to a compiled unit, by the workers of a pool: handed in first, collected later. No lock is held here.
+// How the workers of a pool compile a text to a unit: its functions are handed in first, and their pieces are collected later. No lock is
+// held here.
 
 ghost use Rattle.std.specs.Prelude.{◌≡◌, List, length, All, IfErr, IfOk};
 ghost use Rattle.std.specs.Arc.{arc_value};
@@ -23,7 +24,7 @@ use std::marker::{Model, PhantomData};
 use std::sync::{Arc, Wait};
 
 /// A program's text whose functions were handed to the workers of a service, for a `put_prepared` of that service. Contracts see the mode
-/// and the text. If it is dropped, it is compiled for nothing, and nobody waits for it.
+/// and the text. If this value is dropped, the text is compiled in vain, and nobody waits for it.
 pub struct Prepared<N: Named> {
     mode: Mode,
     unit: Arc<TypedUnit>,
@@ -31,7 +32,7 @@ pub struct Prepared<N: Named> {
     of: PhantomData<N>,
 }
 
-// Written by hand, so that crates above call it and need not prove again how each part is dropped.
+// Written by hand, so that the crates above call it instead of proving again how each part is dropped.
 impl<N: Named> Drop for Prepared<N> {
     fn drop(self) {
         let Prepared {
@@ -60,21 +61,21 @@ impl<N: Named> Model for Prepared<N> {
 }
 
 impl<N: Named> Prepared<N> {
-    /// The text. The call takes no memory.
+    /// The text. The call needs no memory.
     pub fn text(&self) -> &[u8]
         ensures { result.now ≡ self.now.text }
     {
         self.unit.text()
     }
 
-    /// The mode in which code was asked for. The call takes no memory.
+    /// The mode in which code was asked for. The call needs no memory.
     pub fn mode(&self) -> Mode
         ensures { result ≡ self.now.mode }
     {
         self.mode
     }
 
-    /// The number of its functions. The call takes no memory.
+    /// The number of its functions. The call needs no memory.
     pub fn functions(&self) -> usize
         ensures { (tree : List External) × IsProgramText self.now.text tree × (result ≡ length (functions tree)) }
     {
@@ -135,7 +136,7 @@ fn handed_in<N: Named + Send + Sync + 'static, R: Wait>(
 }
 
 impl<N: Named + Send + Sync + 'static> Prepared<N> {
-    // Waits for its functions, and links them.
+    // Waits for the pieces of the text's functions, and links them.
     pub(crate) fn unit<R: Wait>(
         self,
         rt: &R,
@@ -162,7 +163,7 @@ impl<N: Named + Send + Sync + 'static> Prepared<N> {
     }
 }
 
-// The pieces of a job's functions, one for each, in their order.
+// The pieces of a job's functions, one for each, in order.
 fn collected<N: Named + Send + Sync + 'static, R: Wait>(
     rt: &R,
     alloc: Global,
@@ -184,7 +185,7 @@ fn collected<N: Named + Send + Sync + 'static, R: Wait>(
     }
 }
 
-// The unit to which the pieces of its functions in a mode are linked.
+// Links the pieces of a unit's functions in a mode to a compiled unit.
 fn linked(
     alloc: Global,
     mode: Mode,
@@ -208,7 +209,7 @@ fn linked(
         }
         Err(LinkFault::ImageTooLarge) => Err(ServiceFault::ImageTooLarge),
         Err(LinkFault::OutOfMemory) => Err(ServiceFault::OutOfMemory),
-        // There is one piece for each function, and no other.
+        // There is exactly one piece for each function.
         Err(LinkFault::Missing { .. }) => unreachable!(),
         Err(LinkFault::Doubled { .. }) => unreachable!(),
         Err(LinkFault::Stranger { .. }) => unreachable!(),

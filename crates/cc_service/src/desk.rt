@@ -8,7 +8,7 @@ use std::alloc::Global;
 use std::marker::Model;
 use std::sync::ledger::Share;
 
-/// The number of clients that were made, and the parts of the ledger that none of them has. Contracts see the number.
+/// The number of clients that were made, and the parts of the ledger that no client has. Contracts see the number.
 #[derive(Drop)]
 pub(crate) struct Desk<N: Named> {
     pub(crate) made: u64,

@@ -81,11 +81,11 @@ pub struct Service<N: Named, D: Disk> {
     book: Mutex<Book<N, D>>,
     desk: Mutex<Desk<N>>,
     pool: Pool<N>,
-    // The number of clients that wait for a unit, or are putting it.
+    // The number of clients that wait for a unit to be compiled, or are putting one.
     putting: AtomicU64,
 }
 
-// Written by hand, so that crates above call it and need not prove again how each part is dropped.
+// Written by hand, so that the crates above call it instead of proving again how each part is dropped.
 impl<N: Named, D: Disk + Drop> Drop for Service<N, D> {
     fn drop(self) {
         let Service {
@@ -100,8 +100,8 @@ impl<N: Named, D: Disk + Drop> Drop for Service<N, D> {
 impl<N: Named + Send + Sync + 'static, D: Disk> Service<N, D> {
     /// Opens the library on a disk, and starts this many workers, 1 to 8, which call the gate before each piece.
     ///
-    /// Refusals, with the disk handed back: 35, 38, 37 and 40 as the library's opening has them; then 41 if a thread could not be started,
-    /// or 40 if memory ran out. No worker is left then. No refusal changes a byte.
+    /// Refusals, with the disk handed back: 35, 38, 37 and 40 as for the library's opening; then 41 if a thread could not be started, or 40
+    /// if memory ran out. No worker is left then. No refusal changes a byte.
     pub fn open<R, G>(
         rt: &R,
         alloc: Global,
@@ -118,8 +118,8 @@ impl<N: Named + Send + Sync + 'static, D: Disk> Service<N, D> {
         requires parts { N.parts ≡ 1025 }
         requires queue { fresh.queue ≡ N.queue }
         requires named { IsTrue D.honest → (units : Units) → Recovers (D.seen disk) units → units ≡ N.base }
-        // It also names a moment up to now, what a crash may have left since then (`finish` says what one leaves later), and a number
-        // no larger than that of the device calls that had failed.
+        // The parameter also names a moment up to now, what a crash may have left since then (`finish` says what a crash leaves later), and
+        // a number of failed device calls that is at most the actual one.
         requires past { IsTrue D.honest → IsPast D.Disk N.from N.left disk }
         requires failures { N.failures ≤ D.failures disk }
         requires some { 1 ≤ workers }
@@ -150,8 +150,8 @@ impl<N: Named + Send + Sync + 'static, D: Disk> Service<N, D> {
         }
     }
 
-    /// The service over a library as its opening left it, which is not read again: with this many workers, 1 to 8, which call the gate
-    /// before each piece.
+    /// The service over a library as its opening left it, with this many workers, 1 to 8, which call the gate before each piece. The
+    /// library is not read again.
     ///
     /// Refusals, with the disk handed back as it was: 40 if memory ran out; 41 if a thread could not be started. No worker is left then.
     pub fn over<R, G>(
@@ -166,7 +166,7 @@ impl<N: Named + Send + Sync + 'static, D: Disk> Service<N, D> {
         R: Threads + Wait + Copy + Send + 'static,
         G: Gate + Drop + Send + Sync + 'static,
         // The parameter names this ledger and this queue. On an honest disk it names the library's map and a moment up to now; on any disk,
-        // a number no larger than that of the device calls that had failed.
+        // a number of failed device calls that is at most the actual one.
         requires ledger { fresh.ledger ≡ N.name }
         requires parts { N.parts ≡ 1025 }
         requires queue { fresh.queue ≡ N.queue }
@@ -239,8 +239,8 @@ impl<N: Named + Send + Sync + 'static, D: Disk> Service<N, D> {
     ///
     /// Refusals, in this order: 33; 7, 1 to 6, 11 to 21 for the text; for the first function whose piece did not come, 22 or 24 if a worker
     /// refused it, else 41; 25; then under the lock 36, 39, 31 (for `Add`) and 32 (for `Replace`), 34, 35. 40 if memory ran out. Only 31
-    /// and 32 come with a receipt. The others leave the client's number and receipts as they were, but its pass may have sent some of the
-    /// functions.
+    /// and 32 come with a receipt. The other refusals leave the client's number and receipts as they were, but its pass may have sent some
+    /// of the functions.
     pub fn put_in<R: Wait>(
         &self,
         rt: &R,
@@ -282,8 +282,8 @@ impl<N: Named + Send + Sync + 'static, D: Disk> Service<N, D> {
         self.prepare_in(rt, alloc, client, Mode::Plain, source)
     }
 
-    /// Hands the functions of a text to the workers, for a `put_prepared` of an image in a mode. It does not wait for them to be compiled:
-    /// it waits only while the queue is full.
+    /// Hands the functions of a text to the workers, for a `put_prepared` of an image in a mode. The call does not wait for them to be
+    /// compiled: it waits only while the queue is full.
     ///
     /// Refusals, in this order: 7, 1 to 6, 11 to 21 for the text; 41. 40 if memory ran out. Each leaves the client's number and receipts
     /// as they were, as an Ok does; after 40 and 41 its pass may have sent some of the functions.
@@ -308,8 +308,8 @@ impl<N: Named + Send + Sync + 'static, D: Disk> Service<N, D> {
     /// Waits for the functions of a prepared text, and puts its unit in the library, as `put_in` does in that mode.
     ///
     /// Refusals, in this order: 33; for the first function whose piece did not come, 22 or 24 if a worker refused it, else 41; 25; then
-    /// under the lock those of `put`. 40 if memory ran out. Only 31 and 32 come with a receipt; the others leave the client's number and
-    /// receipts as they were. The prepared text is used up in any case.
+    /// under the lock those of `put`. 40 if memory ran out. Only 31 and 32 come with a receipt; the other refusals leave the client's
+    /// number and receipts as they were. The prepared text is used up in any case.
     pub fn put_prepared<R: Wait>(
         &self,
         rt: &R,
@@ -319,7 +319,7 @@ impl<N: Named + Send + Sync + 'static, D: Disk> Service<N, D> {
         name: &[u8],
         prepared: Prepared<N>,
     ) -> Result<Receipt, ServiceFault>
-        // The answers are those of a `put` of its text.
+        // The answers are those of a `put` of the prepared text.
         ensures answers { PutAnswers prepared.mode (Puts put prepared.mode name.now prepared.text) name.now prepared.text client.old.member client.new.member result }
         ensures stored { IfOk result (λ receipt. IsStored D.Disk N.base N.from N.left receipt) }
         ensures past_text { IfErr result (λ fault. IsPastText fault) }
@@ -329,7 +329,7 @@ impl<N: Named + Send + Sync + 'static, D: Disk> Service<N, D> {
             drop(prepared);
             return Err(ServiceFault::BadName);
         };
-        // From now until the unit is put, its client counts as one that waits for it.
+        // From now until the unit is put, the client counts as waiting for it.
         self.putting.fetch_add(1, Ordering::SeqCst);
         match prepared.unit(rt, alloc, &self.pool) {
             Ok(unit) => {
@@ -345,11 +345,12 @@ impl<N: Named + Send + Sync + 'static, D: Disk> Service<N, D> {
     }
 
     /// Compiles a text in a mode and replaces the unit under a name with it, if the old unit's source is the expected one. The comparison
-    /// and the change happen under one lock: in the history no call is between the look-up and the change.
+    /// and the change happen under one lock: in the history there is no call between the look-up and the change.
     ///
     /// Refusals, in this order: those of `put_in` up to 25; then under the lock 36, 39, 32, 60 if the name's unit has another source, 34,
     /// 35. 40 if memory ran out. 32 and 60 come with a receipt, that of the look-up; after 34, 35 and a 40 of the change the client has
-    /// that receipt too. The others leave the client's number and receipts as they were. The pass may have sent some of the functions.
+    ///     that receipt too. The other refusals leave the client's number and receipts as they were. The client's pass may have sent some
+    ///     of the functions.
     pub fn update_in<R: Wait>(
         &self,
         rt: &R,
@@ -369,7 +370,7 @@ impl<N: Named + Send + Sync + 'static, D: Disk> Service<N, D> {
         };
         match begun(rt, alloc, &self.pool, &mut client.pass, mode, source) {
             Ok(prepared) => {
-                // The client counts as one that waits for the unit.
+                // Until the unit is put, the client counts as waiting for it.
                 self.putting.fetch_add(1, Ordering::SeqCst);
                 let answer = self.update_unit(rt, alloc, client, name, expected, prepared);
                 self.putting.fetch_sub(1, Ordering::SeqCst);
@@ -379,7 +380,7 @@ impl<N: Named + Send + Sync + 'static, D: Disk> Service<N, D> {
         }
     }
 
-    // Replaces a unit with that of a prepared text, if the old one's source is the expected one.
+    // Replaces a unit with the unit of a prepared text, if the old unit's source is the expected one.
     fn update_unit<R: Wait>(
         &self,
         rt: &R,
@@ -400,7 +401,7 @@ impl<N: Named + Send + Sync + 'static, D: Disk> Service<N, D> {
         }
     }
 
-    // Compares and changes under the book's lock.
+    // Compares the source and makes the change, under the book's lock.
     fn exchange<R: Wait>(
         &self,
         rt: &R,
@@ -421,13 +422,13 @@ impl<N: Named + Send + Sync + 'static, D: Disk> Service<N, D> {
         answer
     }
 
-    /// Whether some client waits for a unit that it puts. No clause says this. A client that is in no call itself, and that hands texts
-    /// in early only if this is false, makes no other client wait longer.
+    /// Whether some client waits for a unit that it puts. No clause says anything about the answer. A client that makes no other call at
+    /// the time, and hands in texts early only if the answer is false, makes no other client wait longer.
     pub fn is_busy(&self) -> bool {
         self.putting.load(Ordering::SeqCst) != 0
     }
 
-    /// Compiles a text and adds its unit under a name that has none: `put` with `Add`.
+    /// Compiles a text and adds its unit under a name that has no unit: `put` with `Add`.
     pub fn add<R: Wait>(
         &self,
         rt: &R,
@@ -461,8 +462,8 @@ impl<N: Named + Send + Sync + 'static, D: Disk> Service<N, D> {
 
     /// Removes a name and its unit.
     ///
-    /// Refusals, in this order: 33, 36, 39, 32, 34, 35. 40 if memory ran out. Only 32 comes with a receipt; the others leave the client as
-    /// it was.
+    /// Refusals, in this order: 33, 36, 39, 32, 34, 35. 40 if memory ran out. Only 32 comes with a receipt; the other refusals leave the
+    /// client as it was.
     pub fn withdraw<R: Wait>(
         &self,
         rt: &R,
@@ -504,7 +505,8 @@ impl<N: Named + Send + Sync + 'static, D: Disk> Service<N, D> {
 
     /// The unit under a name.
     ///
-    /// Refusals, in this order: 33, 39, 32. 40 if memory ran out. Only 32 comes with a receipt; the others leave the client as it was.
+    /// Refusals, in this order: 33, 39, 32. 40 if memory ran out. Only 32 comes with a receipt; the other refusals leave the client as it
+    /// was.
     pub fn get<R: Wait>(
         &self,
         rt: &R,
@@ -530,7 +532,7 @@ impl<N: Named + Send + Sync + 'static, D: Disk> Service<N, D> {
 
     /// All names that have a unit, in the order of their bytes.
     ///
-    /// 39; 40 if memory ran out. Both leave the client as it was.
+    /// 39 if the client's last receipt does not match the history; 40 if memory ran out. Both leave the client as it was.
     pub fn list<R: Wait>(
         &self,
         rt: &R,
@@ -562,7 +564,7 @@ impl<N: Named + Send + Sync + 'static, D: Disk> Service<N, D> {
         client.look(alloc, &mut self.book.lock(rt), asked)
     }
 
-    /// Writes the library's records again, one for each name. The map stays, and the history gets no entry.
+    /// Writes the library's records again, one for each name. The map stays the same, and the history gets no entry.
     ///
     /// Refusals, in this order: 36, 34, 35. 40 if memory ran out.
     pub fn compact<R: Wait>(&self, rt: &R, alloc: Global) -> Result<(), ServiceFault>
@@ -587,22 +589,22 @@ impl<N: Named + Send + Sync + 'static, D: Disk> Service<N, D> {
 
     /// Ends the service, with all its clients.
     ///
-    /// 39 for the first receipt that does not match the history; 39 with the history's length and no entry if these are not all the clients
-    /// that it made; 40 if memory ran out. The service and the clients are then handed back, and no worker was stopped. A failure to end
-    /// the workers does not change the answer.
+    /// 39 for the first receipt that does not match the history; 39, with the history's length and no entry, if these are not all the
+    /// clients that the service made; 40 if memory ran out. After a refusal the service and the clients are handed back, and no worker has
+    /// been stopped. A failure to end the workers does not change the answer.
     pub fn finish<R: Wait>(
         self,
         rt: &R,
         alloc: Global,
         clients: Vec<Client<N>>,
     ) -> Result<Closed<D>, (ServiceFault, Service<N, D>, Vec<Client<N>>)>
-        // One legal history from the base leads to the library. What a crash then leaves of the disk has each acknowledged command; what
-        // one may have left at any moment since the opening has a prefix of them.
+        // One legal history from the base leads to the library. What a crash then leaves of the disk has each acknowledged command; what a
+        // crash may have left at any moment since the opening has a prefix of these.
         ensures sound { IfOk result (λ r. IsSound D.Disk N.base N.from N.left (record { base = r.base; library = r.library; history = r.history.items; failed = r.failed.items })) }
         // Each change that failed did so in a device call that failed since the opening: if none did, whatever a crash leaves has exactly
         // the map.
         ensures blamed { IfOk result (λ r. FailedByDevice D.Disk N.failures (record { base = r.base; library = r.library; history = r.history.items; failed = r.failed.items })) }
-        // Every receipt of every client is in that history, once and in its client's order.
+        // Every receipt of every client is in the history, once and in the client's order.
         ensures closed { IfOk result (λ r. IsClosed r.history.items (members clients.items)) }
         ensures receipts { IfOk result (λ r. map (λ v. v.items) r.receipts.items ≡ map (λ c. c.receipts) (members clients.items)) }
         ensures own { IfOk result (λ _. AreOwn (members clients.items)) }
@@ -637,9 +639,9 @@ impl<N: Named + Send + Sync + 'static, D: Disk> Service<N, D> {
         }
     }
 
-    /// Ends the service, whoever its clients were, and returns its disk and whether these are all its clients: every one of their
-    /// receipts matches the history, no two have the same number, and every entry of the history has a receipt. It takes no
-    /// memory, so it ends a service that `finish` refuses to end, or one that has lost a client.
+    /// Ends the service with any clients, and returns its disk and whether these are all its clients: each of their receipts matches the
+    /// history, no two clients have the same number, and each entry of the history has a receipt. The call needs no memory, so it can end a
+    /// service that `finish` refuses to end, or one that has lost a client.
     pub fn give_up<R: Wait>(self, rt: &R, alloc: Global, clients: Vec<Client<N>>) -> (D, bool)
         ensures { IsGivenUp D.Disk N.failures N.base N.from N.left (members clients.items) result.1 result.0 }
     {
@@ -652,7 +654,7 @@ impl<N: Named + Send + Sync + 'static, D: Disk> Service<N, D> {
         drop(desk);
         let given_up = book.into_inner().give_up(clients.as_slice());
         drop(clients);
-        // The workers are stopped; the passes are dropped, so this cannot answer anything else.
+        // The workers are stopped; all passes have been dropped, so this cannot be refused.
         drop(pool.finish(rt, Vec::new(alloc)));
         given_up
     }

@@ -1,4 +1,4 @@
--- Auditing the listed names one by one makes up an audit of all.
+-- Auditing the listed names one by one is an audit of all units.
 use Rattle.std.proofs.Common.{◌≡◌, ◌∙◌, ℕ, ◌+◌, ◌<◌, Bool, true, false, List, [], ◌∷◌, length, drop, get_or, Option, Result, Ok, Err, refl, sym, ap, subst, inl, inr}
 use Rattle.std.specs.Prelude.{codes}
 use Rattle.std.specs.Io.KnownBytes.{append_known}
@@ -27,14 +27,14 @@ not_audited : (mode : Mode) → (name : List ℕ) (answer : Result Receipt Servi
 not_audited mode name (Ok receipt) = (no_memory_text, refl)
 not_audited mode name (Err fault) = (refusal_text [] fault, refl)
 
--- if the audit of the name at `i` says nothing, it is the last
+-- if the audit of the name at `i` says nothing, it is the last audit
 pub audited_last : (mode : Mode) → (names : List (List ℕ)) (i : ℕ) (name bytes : List ℕ) → i < length names → name ≡ get_or names i name → bytes ≡ name → (old new : Talk)
     → CallsAndWrites (GetAnswers bytes) (SaysAudit mode bytes false) old new → AuditsEach mode (drop i names) false old new
 audited_last mode names i name bytes within is same old new called =
     subst (λ (l : List (List ℕ)). AuditsEach mode l false old new) (sym (from_name names i name within is))
     (inl (refl, subst (λ (n : List ℕ). CallsAndWrites (GetAnswers n) (SaysAudit mode n false) old new) same called))
 
--- the same if its answer could not be written
+-- if the answer for the name at `i` could not be written, the client is as after a last audit that says nothing
 pub audited_unwritten : (mode : Mode) → (names : List (List ℕ)) (i : ℕ) (name bytes : List ℕ) → i < length names → name ≡ get_or names i name → bytes ≡ name → (old new : Talk) (fault : ScriptFault)
     → AuditsName mode bytes old new (let r : Result Bool ScriptFault = Err fault in r) → (fault ≡ WriteFault) × (written : Option (List ℕ)) × AuditsEach mode (drop i names) false old (talk new.client written)
 audited_unwritten mode names i name bytes within is same old new fault it =
@@ -42,14 +42,15 @@ audited_unwritten mode names i name bytes within is same old new fault it =
     let written = append_known old.written says.0 in
     (it.2, written, audited_last mode names i name bytes within is same old (talk new.client written) (it.0, it.1, says.0, says.1, appended old.written says.0))
 
--- if the audit of the name at `i` says something, and the units of the names after it are audited, all from `i` on are
+-- if the audit of the name at `i` says something, and the units under the names after it are audited, the units under
+-- all names from `i` on are audited
 pub audited_on : (mode : Mode) → (names : List (List ℕ)) (i : ℕ) (name bytes : List ℕ) → i < length names → name ≡ get_or names i name → bytes ≡ name → (all : Bool) (old between new : Talk)
     → CallsAndWrites (GetAnswers bytes) (SaysAudit mode bytes true) old between → AuditsEach mode (drop (i + 1) names) all between new → AuditsEach mode (drop i names) all old new
 audited_on mode names i name bytes within is same all old between new found behind =
     subst (λ (l : List (List ℕ)). AuditsEach mode l all old new) (sym (from_name names i name within is))
     (inr (between, subst (λ (n : List ℕ). CallsAndWrites (GetAnswers n) (SaysAudit mode n true) old between) same found, behind))
 
--- if the names are listed and all their units are audited, this is an audit
+-- if the names are listed and all their units are audited, then all units are audited
 pub audits_all : (mode : Mode) → {T : Type 0} (answer : Result T ScriptFault) (receipt : Receipt) (names : List (List ℕ)) (heard : MemberView) (old new : Talk) (last : Option (List ℕ))
     → ListAnswers old.client heard (Ok receipt) → receipt.entry.reply ≡ reply.Names names → AuditsEach mode names true (talk heard old.written) (talk new.client last)
     → Tells last new.written (line (codes "ok")) answer → DoesAndTells (Audits mode) old new answer
@@ -61,13 +62,13 @@ audits_all mode (Err fault) receipt names heard old new last listed are each tol
   inr (record { receipt = receipt; names = names; all = true; heard = heard; last = talk new.client last; listed = listed; names_are = are; audited = each; ended = (refl, appended last (line (codes "ok"))) }),
 )
 
--- the same if some of the units are not audited
+-- if the names are listed and the units are audited up to one whose audit says nothing, that is what `audit` does
 pub audits_some : (mode : Mode) → (receipt : Receipt) (names : List (List ℕ)) (heard : MemberView) (old new : Talk)
     → ListAnswers old.client heard (Ok receipt) → receipt.entry.reply ≡ reply.Names names → AuditsEach mode names false (talk heard old.written) new → Audits mode old new
 audits_some mode receipt names heard old new listed are each =
     inr (record { receipt = receipt; names = names; all = false; heard = heard; last = new; listed = listed; names_are = are; audited = each; ended = refl })
 
--- the same if the list is refused
+-- if the list is refused and the refusal is written, that is what `audit` does
 pub audits_none : (mode : Mode) → {T : Type 0} (answer : Result T ScriptFault) (fault : ServiceFault) (old new : Talk) → ListAnswers old.client new.client (Err fault)
     → Tells old.written new.written (refusal_text [] fault) answer → DoesAndTells (Audits mode) old new answer
 audits_none mode (Ok done) fault old new listed told = inl (Err fault, listed, refusal_text [] fault, refl, told.1)
@@ -76,7 +77,7 @@ audits_none mode (Err unwritten) fault old new listed told =
 
 -- ---- one unit
 
--- an audit of one name that says something
+-- if an audit of one name says something, and `ok` is written, that is what `audit NAME` does
 pub audited_one : (mode : Mode) → {T : Type 0} (answer : Result T ScriptFault) (name : List ℕ) (old new : Talk) (last : Option (List ℕ))
     → CallsAndWrites (GetAnswers name) (SaysAudit mode name true) old (talk new.client last) → Tells last new.written (line (codes "ok")) answer → DoesAndTells (AuditsOne mode name) old new answer
 audited_one mode (Ok done) name old new last called told = (true, talk new.client last, inr (talk new.client last, called, refl), (refl, told.1))
@@ -86,11 +87,11 @@ audited_one mode (Err fault) name old new last called told = (
   (true, talk new.client last, inr (talk new.client last, called, refl), (refl, appended last (line (codes "ok")))),
 )
 
--- an audit of one name that says nothing
+-- if an audit of one name says nothing, that is what `audit NAME` does
 pub audited_none : (mode : Mode) → (name : List ℕ) (old new : Talk) → CallsAndWrites (GetAnswers name) (SaysAudit mode name false) old new → AuditsOne mode name old new
 audited_none mode name old new called = (false, new, inl (refl, called), refl)
 
--- an audit of one name whose line could not be written
+-- if the line of an audit of one name could not be written, the client is as if it had been
 pub audited_not : (mode : Mode) → (name : List ℕ) (old new : Talk) (fault : ScriptFault) → AuditsName mode name old new (let r : Result Bool ScriptFault = Err fault in r)
     → (fault ≡ WriteFault) × (written : Option (List ℕ)) × AuditsOne mode name old (talk new.client written)
 audited_not mode name old new fault it =

@@ -1,4 +1,4 @@
--- What a script made of the one client, and of what the writer held.
+-- How a script changed its one client, and the contents of the writer.
 use Rattle.std.proofs.Common.{◌≡◌, List, [], ◌∷◌, Option, None, Result, Ok, Err, ℕ, inr, refl, sym, subst}
 use Rattle.cc_script.specs.declared.command.Dialect.TheVariants.{Plain}
 use Rattle.cc_script.specs.declared.fault.ScriptFault.{ScriptFault}

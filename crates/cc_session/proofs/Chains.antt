@@ -1,4 +1,4 @@
--- A further generation goes on from what the ones before it left. Between two generations each spool was asked whether it is
+-- A further generation goes on from what the earlier ones left. Between two generations each spool was asked whether it is
 -- over, which changes nothing.
 use Rattle.std.proofs.Common.{◌≡◌, ℕ, zero, suc, List, refl, sym, subst}
 use Rattle.cc_spool.specs.Spool.{Delivered, Taken}

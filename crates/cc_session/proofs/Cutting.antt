@@ -73,7 +73,7 @@ pub run_refused : {T : Type 0} (result : Result T ScriptFault) (most : Option �
 run_refused (Ok done) most name steps why old new get told = (Err why, get, refusal_text [] why, refl, told.1)
 run_refused (Err fault) most name steps why old new get told = refused_not fault most name steps why old new get told.0
 
--- ---- the line that asks for it
+-- ---- the line that asks for the `run`
 
 obeyed_not : (mode : Mode) → (fault : ScriptFault) (most : Option ℕ) (name : List ℕ) (steps : ℕ) (x : Ahead) (old new : Talk) → RunsNot most name steps old new fault
     → IsObeyedNot mode most (Some (Run name steps)) x old new fault
@@ -95,7 +95,7 @@ pub obeyed_run : (mode : Mode) → {T : Type 0} (result : Result T ScriptFault) 
 obeyed_run mode result most asked name steps x old new same it =
     subst (λ (it : Option ScriptRequest). IsObeyed mode most it x x old new result) same (obeyed_by mode result most name steps x old new it)
 
--- the client of a `run` that was not written keeps its receipts
+-- if a `run` was not written, its client keeps its receipts
 grows_not : (fault : ScriptFault) (most : Option ℕ) (name : List ℕ) (steps : ℕ) (old new : Talk) → RunsNot most name steps old new fault → Grows old.client new.client
 grows_not BadLine most name steps old new it = get_grows name old.client new.client it.2.0 it.2.1
 grows_not EndOfScript most name steps old new it = get_grows name old.client new.client it.2.0 it.2.1
@@ -108,7 +108,7 @@ pub run_grows : {T : Type 0} (result : Result T ScriptFault) (most : Option ℕ)
 run_grows (Ok done) most name steps old new it = get_grows name old.client new.client it.0 it.1
 run_grows (Err fault) most name steps old new it = grows_not fault most name steps old new it
 
--- a client whose run was cut off made the same call as one that was answered that memory ran out
+-- if a run was cut off, the client made the same call as if the answer had been that memory ran out
 pub cut_obeyed : (mode : Mode) → (asked : Option ScriptRequest) (rest : List ℕ) (old last new : Talk) → new.client ≡ last.client → CutsLine asked old last
     → (w : Option (List ℕ)) × Obeys mode asked rest rest old (talk new.client w)
 cut_obeyed mode (Some (Run name steps)) rest old last new same (receipt, get, cut, written) = (

@@ -68,7 +68,7 @@ not_started honest seen base before after service.ImageTooLarge not same recover
 not_started honest seen base before after (service.Book f) not same recovers = not
 not_started honest seen base before after (service.Changed receipt) not same recovers = not
 
--- the same for a session that was not opened
+-- the reason for which a session was not opened, stated for the bytes that were seen before
 pub unopened_on : (honest : Bool) (seen later : List ℕ) (before after : ℕ) (end : SessionEnd) → (IsTrue honest → later ≡ seen)
     → IsUnopened honest later before after end → IsUnopened honest seen before after end
 unopened_on honest seen later before after Finished same it = it
@@ -84,20 +84,20 @@ given_up_whole (Fault first) = inl refl
 
 module _ {Disk : Type 0} (D : Ghosts Disk) (failures : ℕ) (named : Units) (from : ℕ) (left : List ℕ → Type 0)
     (bytes : List ℕ) (begun : IsTrue D.honest → Recovers bytes named) (clients : List MemberView) (played : SessionEnd) where
-  -- a service that was closed ends as the work did, with all that its end says about the book
+  -- if a service was closed, it ends as the work did, and the library that is left is that of its book
   pub kept_by : (book : BookView Disk) (after : Disk) → after ≡ book.library.disk → IsSound D named from left book → FailedByDevice D failures book → IsClosed book.history clients → AreOwn clients
       → IsEnded D failures bytes from left clients played played after
   kept_by book after disk sound blamed closed own =
       inl (inl refl, record { base = named; begun = begun; book = book; disk = sym disk; sound = sound; blamed = blamed; own = own; holds = closed })
 
-  -- how a service ends that was given up
+  -- a service that was given up has ended, as `IsEnded` says
   pub given_up_by : (are_all : Bool) (after : Disk) → IsGivenUp D failures named from left clients are_all after → IsEnded D failures bytes from left clients played (given_up_after are_all played) after
   given_up_by true after it =
       inl (given_up_whole played, record { base = named; begun = begun; book = it.book; disk = it.disk_is; sound = it.sound; blamed = it.blamed; own = it.own; holds = it.closed refl })
   given_up_by false after it =
       inr (refl, record { base = named; begun = begun; book = it.book; disk = it.disk_is; sound = it.sound; blamed = it.blamed; own = it.own; holds = it.why refl })
 
--- ---- what was read before it was opened
+-- ---- what was read before the service was opened
 
 -- what is left of a service, stated for the bytes that were seen before
 left_on : {Disk : Type 0} (D : Ghosts Disk) (failures : ℕ) (bytes later : List ℕ) (from : ℕ) (left : List ℕ → Type 0) (Holds : List Entry → List MemberView → Type 0) (clients : List MemberView) (after : Disk)
@@ -114,7 +114,7 @@ left_on D failures bytes later from left Holds clients after same it =
       holds = it.holds;
     }
 
--- the same for a service that was ended or given up
+-- the end of a service that was ended or given up, stated for the bytes that were seen before
 ended_on : {Disk : Type 0} (D : Ghosts Disk) (failures : ℕ) (bytes later : List ℕ) (from : ℕ) (left : List ℕ → Type 0) (clients : List MemberView) (played end : SessionEnd) (after : Disk)
     → (IsTrue D.honest → later ≡ bytes) → IsEnded D failures later from left clients played end after → IsEnded D failures bytes from left clients played end after
 ended_on D failures bytes later from left clients played end after same (inl kept) =
@@ -123,11 +123,11 @@ ended_on D failures bytes later from left clients played end after same (inr est
     inr (estranged.0, left_on D failures bytes later from left IsNotWhole clients after same estranged.1)
 
 module _ {Disk : Type 0} (D : Ghosts Disk) where
-  -- doing nothing only reads
+  -- if a disk is the same before and after, it was at most read
   pub reads_none : (a : Disk) → OnlyReads D.seen D.may_leave D.moment D.left_since a a
   reads_none a = record { same = refl; images = λ image leaves. leaves; later = omega arith; moments = λ t image early left. left }
 
-  -- reading twice only reads
+  -- if a disk was only read twice in a row, it was only read
   pub reads_on : (a b c : Disk) → OnlyReads D.seen D.may_leave D.moment D.left_since a b → OnlyReads D.seen D.may_leave D.moment D.left_since b c → OnlyReads D.seen D.may_leave D.moment D.left_since a c
   reads_on a b c one two = record {
     same = two.same ∙ one.same;
@@ -166,7 +166,7 @@ module _ {Disk : Type 0} (D : Ghosts Disk) where
       subst (λ (d : Disk). EndsSince D (D.moment d) (D.may_leave d) Untouched HaveDone a after end) is
       (on_first (D.moment first) (D.may_leave first) Untouched HaveDone a b after end sound reads it)
 
-  -- how serving ends if no service was opened for this reason, which is reported
+  -- how serving ends if no service was opened for this reason, and the reason is reported
   pub unserved_by : (from : ℕ) (begins : List ℕ → Type 0) (Untouched : Type 0) (HaveDone : List MemberView → SessionEnd → Type 0) (base : Units)
       (fault : ServiceFault) (a b after : Disk) (end : SessionEnd) → after ≡ b → end ≡ Fault (fault_number fault) → IsNotOpened D.honest (D.seen a) base (D.failures a) (D.failures b) fault
       → (IsTrue D.honest → OnlyReads D.seen D.may_leave D.moment D.left_since a b) → Untouched
@@ -176,7 +176,7 @@ module _ {Disk : Type 0} (D : Ghosts Disk) where
       (subst (λ (e : SessionEnd). EndsSince D from begins Untouched HaveDone a b e) (sym told)
       (inl ((base, fault, refl, why), reads, untouched)))
 
-  -- what a crash may have left at the service's beginning
+  -- if the disk was only read, a crash since the beginning leaves only what it could have left then
   pub past_at : (first a b : Disk) → ((image : List ℕ) → D.left_since a (D.moment a) image → D.may_leave a image) → first ≡ a → OnlyReads D.seen D.may_leave D.moment D.left_since a b
       → IsPast D (D.moment first) (D.may_leave first) b
   past_at first a b only is reads =
@@ -197,6 +197,6 @@ module _ {Disk : Type 0} (D : Ghosts Disk) where
   not_over base library after fault recovers named not back =
       not_started D.honest (D.seen library.disk) base (D.failures library.disk) (D.failures after) fault not (ap D.failures back) (recovers_base base library recovers named)
 
-  -- a disk that was handed back was not touched
+  -- if a disk was handed back unchanged, it was at most read
   pub reads_back : (a b : Disk) → b ≡ a → OnlyReads D.seen D.may_leave D.moment D.left_since a b
   reads_back a b back = subst (λ (d : Disk). OnlyReads D.seen D.may_leave D.moment D.left_since a d) (sym back) (reads_none a)

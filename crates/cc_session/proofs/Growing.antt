@@ -1,4 +1,4 @@
--- A client that has called keeps its number and its receipts.
+-- A client keeps its number and its receipts when it makes calls.
 use Rattle.std.proofs.Common.{◌≡◌, ◌∙◌, List, [], ◌∷◌, ◌++◌, ℕ, Bool, true, false, Result, Ok, Err, refl, sym, ap, subst, append_assoc, inl, inr}
 use Rattle.std.proofs.lemmas.List.{append-nil}
 use Rattle.cc_script.specs.declared.fault.ScriptFault.{ScriptFault}

@@ -20,7 +20,7 @@ use Rattle.cc_session.proofs.Playing.{asks_short, between_none, between_on, know
 
 -- ---- lines that are done
 
--- what has been played so far: `count` lines, from `start` to `now`
+-- `count` lines have been played so far, from `start` to `now`
 pub record Played (mode : Mode) (dialect : Dialect) (most : Option ℕ) (count : ℕ) (start now : Talk) (b a : List ℕ) : Type 0 where
   pub takes : count + length a ≤ length b
   pub few : IsWithin most count
@@ -32,7 +32,7 @@ within_none : (most : Option ℕ) → IsWithin most 0
 within_none None = tt
 within_none (Some most) = omega arith
 
--- if the bound is not reached, one more line is within it
+-- if the bound is not reached, one more line is within the bound
 within_more : (most : Option ℕ) (count : ℕ) → IsWithin most count → most ≢ Some count → IsWithin most (count + 1)
 within_more None count few more = tt
 within_more (Some most) count few more =
@@ -46,7 +46,7 @@ few_of mode dialect most count start now b a it = subst (λ (n : ℕ). IsWithin 
 pub begins : (mode : Mode) → (dialect : Dialect) (most : Option ℕ) (x : Ahead) (now : Talk) → Between x x (Played mode dialect most 0 now now)
 begins mode dialect most x now = between_none x (Played mode dialect most 0 now now) (λ b. record { takes = omega arith; few = within_none most; turns = []; many = refl; plays = (refl, refl) })
 
--- a step that takes at least one byte
+-- a step is done that takes at least one byte
 abbrev pub Steps : (mode : Mode) → (dialect : Dialect) (old new : Talk) → List ℕ → List ℕ → Type 0
 Steps mode dialect old new b a = (length a < length b) × IsStep mode dialect b a old new
 
@@ -67,7 +67,7 @@ line_takes before line after some is = elim is.ends [
       omega (arith, none, few)
 ]
 
--- one step more
+-- if `count` lines have been played, and one more step is done, then `count + 1` have been played
 pub step_on : (mode : Mode) → (dialect : Dialect) (most : Option ℕ) (x y z : Ahead) (count : ℕ) (start old new : Talk) → MayGoOn most start.client count old.client → Between x y (Played mode dialect most count start old) → Between y z (Steps mode dialect old new)
     → Between x z (Played mode dialect most (count + 1) start new)
 step_on mode dialect most x y z count start old new more one two =
@@ -117,11 +117,11 @@ script_ends mode dialect most x y z count start now line one next =
     known_then x y (Played mode dialect most count start now) (λ b. b ≡ []) (λ b. IsPlayed mode dialect most b start now) one (known_by y z (λ b a. IsNext b End line a) (λ b. b ≡ []) next (λ b a none. none))
     (λ b m it none. played mode dialect most b start it.turns m now (few_of mode dialect most count start now b m it) it.plays none)
 
--- why a script stopped after the lines so far: what is left, whether one more line was begun, and `Stops`
+-- a script stopped after the lines so far, with `rest` left: at most 50 was written for the next line, and `Stops` holds
 abbrev pub Halts : (dialect : Dialect) (most : Option ℕ) (count : ℕ) (now last : Talk) (Stops : List ℕ → ℕ → List ℕ → MemberView → Type 0) (rest : List ℕ) → Type 0
 Halts dialect most count now last Stops rest = IsBegun (BeginsBad dialect rest) now last × ((script : List ℕ) → IsWithin most count → Stops script count rest now.client)
 
--- the script stopped after the lines so far
+-- if the script stopped after the lines so far, it is played up to that point
 up_to : (mode : Mode) → (dialect : Dialect) (most : Option ℕ) (x y : Ahead) (count : ℕ) (start now last : Talk) (Stops : List ℕ → ℕ → List ℕ → MemberView → Type 0) → Between x y (Played mode dialect most count start now)
     → IfSome y.rest (Halts dialect most count now last Stops) → IfSome x.rest (λ b. IsPlayedUpTo mode dialect most b (Stops b) start last)
 up_to mode dialect most x y count start now last Stops one stops =
@@ -168,7 +168,7 @@ too_long_there mode dialect most x y count start now last whole one more begun =
       stops = by_bytes most b start.client (length it.1.turns) it.1.rest it.1.between.client it.0;
     })
 
--- a script is too long if as many lines are done as are allowed, or if the receipts hold too much
+-- a script that is not at its end is too long if as many lines are done as are allowed, or if the receipts hold too much
 at_bound : (most : Option ℕ) (script : List ℕ) (first : MemberView) (lines : ℕ) (rest : List ℕ) (now : MemberView) → EndsBehind most first lines now ScriptTooLong → rest ≢ []
     → IsTooLong most script first lines rest now
 at_bound most script first lines rest now bound some = subst (λ (o : Option ℕ). IsTooLong o script first lines rest now) (sym bound.1) (inr (some, bound.2))
@@ -187,7 +187,7 @@ unread_ends mode dialect most x y count start now last left ReadFault whole one 
 unread_ends mode dialect most x y count start now last left WriteFault whole one begun why = absurd why
 unread_ends mode dialect most x y count start now last left Stopped whole one begun why = absurd why
 
--- the script ends if more of it is left, and it is to be ended for that reason
+-- if more of the script is left, and the fault is a limit, the fault ends the script
 limit_ends : (mode : Mode) → (dialect : Dialect) (most : Option ℕ) (x y : Ahead) (count : ℕ) (start now : Talk) (fault : ScriptFault) → Between x y (Played mode dialect most count start now)
     → EndsBehind most start.client count now.client fault → IfSome y.rest (λ b. b ≢ []) → IsHaltedBy mode dialect most x.rest start now fault
 limit_ends mode dialect most x y count start now BadLine one bound some = absurd bound
@@ -213,7 +213,7 @@ limit_ends mode dialect most x y count start now Stopped one bound some = (
   }),
 )
 
--- the script ends if no line came, for that reason, or because it can't be read
+-- if no line came, because of the limit or because it can't be read, the fault ends the script
 pub no_line_ends : (mode : Mode) → (dialect : Dialect) (most : Option ℕ) (x y : Ahead) (count : ℕ) (start now : Talk) (left : ℕ) (limit : Option ScriptFault) (fault : ScriptFault) → x.left ≡ 16777216
     → Between x y (Played mode dialect most count start now) → IsLimit most start.client count now.client limit → IsNoLine limit y left fault → IsHaltedBy mode dialect most x.rest start now fault
 no_line_ends mode dialect most x y count start now left limit fault whole one bound (inl why) =
@@ -240,7 +240,7 @@ skip_ends mode dialect most x y m count start old new line left fault whole same
     (known_by y m (λ b a. IsNext b TooLong line a) (λ b. IsBegun (BeginsBad dialect b) old new) next (λ b a is. inr (inl (is.0, a, is.1, is.2, is.3), (same, why.0))))
     (unread_before y m (λ b a. IsNext b TooLong line a) left fault next why.1)
 
--- a line whose source is not ended by a newline
+-- a line whose source is not followed by a newline is refused before it is read to its end
 bad_line : (dialect : Dialect) (y m : Ahead) (old new : Talk) (n : ℕ) (line : List ℕ) → n ≤ 128 → Between y m (λ b a. IsNext b (Line n) line a)
     → IsBegun (IfSome m.rest (λ rest. HasUnended (asked_of dialect (take n line)) rest)) old new → IfSome y.rest (λ b. IsBegun (BeginsBad dialect b) old new)
 bad_line dialect y m old new n line few next (inl same) = known y.rest (λ b. IsBegun (BeginsBad dialect b) old new) (λ b. inl same)
@@ -342,7 +342,7 @@ obey_ends mode dialect most x y m count start old new n line ReadFault few more 
 obey_ends mode dialect most x y m count start old new n line WriteFault few more whole one next ended = line_ends mode dialect most x y m count start old new n line WriteFault few more whole one next ended
 obey_ends mode dialect most x y m count start old new n line Stopped few more whole one next ended = cut_ends mode dialect most x y m count start old new n line few more one next ended.0 ended.1
 
--- a script with more lines than a script may have bytes is too long
+-- a script that has more lines than it may have bytes is too long
 pub lines_end : (mode : Mode) → (dialect : Dialect) (most : Option ℕ) (x y : Ahead) (count : ℕ) (start now : Talk) → 16777216 < count → Between x y (Played mode dialect most count start now)
     → IsHaltedBy mode dialect most x.rest start now ScriptTooLong
 lines_end mode dialect most x y count start now many one = (
@@ -370,7 +370,7 @@ part_of : (mode : Mode) → (dialect : Dialect) (most : Option ℕ) (script : Li
 part_of mode dialect most script Stops old between new same it =
     played_up_to mode dialect most script old it.turns it.rest it.between new it.few it.plays (inl (same ∙ client_of (BeginsBad dialect it.rest) it.between between it.begun))
 
--- what is known about a client holds for an equal one
+-- what is known about a client holds for an equal client
 in_part_of : (mode : Mode) → (dialect : Dialect) (most : Option ℕ) (script : List ℕ) (old between new : Talk) → new.client ≡ between.client → IsPlayedInPart mode dialect most script old between → IsPlayedInPart mode dialect most script old new
 in_part_of mode dialect most script old between new same it =
     played_up_to mode dialect most script old it.turns it.rest it.between new it.few it.plays (elim it.then_is [

@@ -23,7 +23,7 @@ use Rattle.cc_session.specs.declared.reading.Sent.{Sent}
 
 -- ---- from step to step
 
--- one part is read after another; neither gave back a byte
+-- if two parts are read one after the other, and neither gives back a byte, the two are read as one part
 read_then : (x y z : Option (List ℕ)) (n k m : ℕ) (P Q S : List ℕ → List ℕ → Type 0) → Known x y (IsRead n k P) → Known y z (IsRead k m Q)
     → ((b c a : List ℕ) → length c ≤ length b → length a ≤ length c → P b c → Q c a → S b a) → Known x z (IsRead n m S)
 read_then None y z n k m P Q S one two on = tt
@@ -62,11 +62,11 @@ read_same : (x : Option (List ℕ)) (n : ℕ) (Q : List ℕ → List ℕ → Typ
 read_same None n Q it = tt
 read_same (Some b) n Q it = record { taken = []; prefix = refl; counted = omega arith; holds = it b }
 
--- nothing was read
+-- a relation that every list has to itself holds between what is left before and after, if nothing was read
 pub between_none : (x : Ahead) (Q : List ℕ → List ℕ → Type 0) → ((b : List ℕ) → Q b b) → Between x x Q
 between_none x Q it = read_same x.rest x.left Q it
 
--- a fact before follows from one after
+-- a fact about the rest before a part was read follows from a fact about the rest after that part
 read_by : (x y : Option (List ℕ)) (n m : ℕ) (P : List ℕ → List ℕ → Type 0) (Q S : List ℕ → Type 0) → Known x y (IsRead n m P) → IfSome y Q → ((b c : List ℕ) → P b c → Q c → S b) → IfSome x S
 read_by None y n m P Q S one two on = tt
 read_by (Some b) None n m P Q S one two on = absurd one
@@ -90,7 +90,7 @@ pub known_both : (x : Option (List ℕ)) (Q S : List ℕ → Type 0) → IfSome 
 known_both None Q S one two = tt
 known_both (Some b) Q S one two = (one, two)
 
--- if more bytes are left than there may be, it was the same before
+-- if more bytes than allowed are left after a part was read, more than allowed were left before
 more_read : (x y : Option (List ℕ)) (n m : ℕ) (P : List ℕ → List ℕ → Type 0) → Known x y (IsRead n m P) → IfSome y (λ rest. m < length rest) → IfSome x (λ all. n < length all)
 more_read None y n m P one more = tt
 more_read (Some b) None n m P one more = absurd one
@@ -102,18 +102,19 @@ more_read (Some b) (Some a) n m P one more =
 pub more_before : (x y : Ahead) (P : List ℕ → List ℕ → Type 0) → Between x y P → HasMore y → HasMore x
 more_before x y P one more = more_read x.rest y.rest x.left y.left P one more
 
--- a script of which more bytes are left than there may be is too long
+-- if nothing was read of a script, and more bytes are left than allowed, the script is too long
 pub too_long : (x : Ahead) → x.left ≡ 16777216 → HasMore x → IfSome x.rest (λ b. 16777216 < length b)
 too_long x whole more = known_map x.rest (λ b. x.left < length b) (λ b. 16777216 < length b) more (λ b few. omega (arith, whole, few))
 
 -- ---- whether a step was done
 
--- what a writer holds after one that appends a text, if that is known
+-- appending a text to what is known of a writer's contents is what `Appends` says
 pub appended : (a : Option (List ℕ)) (text : List ℕ) → Appends a (append_known a text) text
 appended None text = tt
 appended (Some bytes) text = refl
 
--- a step whose text was written, or could not be written
+-- if the text of a step was written, the step was done; if the text could not be written, the step was not
+-- done
 pub done_of : {T : Type 0} (answer : Result T ScriptFault) (Does : List ℕ → List ℕ → Talk → Talk → Type 0) (IsShort IsBad : List ℕ → Type 0) (x y : Ahead) (old new : Talk) (text : List ℕ)
     → Tells old.written new.written text answer
     → ((written : Option (List ℕ)) → Appends old.written written text → Between x y (λ b a. Does b a old (talk new.client written))) → IsDone Does IsShort IsBad x y old new answer
@@ -124,7 +125,7 @@ done_of (Err e) Does IsShort IsBad x y old new text told gives =
     (known_by x y (λ b a. Does b a old (talk new.client written)) (λ b. (new.client ≡ old.client) ⊎ ((a : List ℕ) × (w : Option (List ℕ)) × Does b a old (talk new.client w)))
     (gives written (appended old.written text)) (λ b a does. inr (a, written, does)))
 
--- a step that reads nothing after its line
+-- if a step reads nothing after its line, and its call was made and answered, it was done
 pub does_of : {T : Type 0} (answer : Result T ScriptFault) (Does : Talk → Talk → Type 0) (Obeyed : List ℕ → List ℕ → Talk → Talk → Type 0) (IsShort IsBad : List ℕ → Type 0) (x : Ahead) (old new : Talk)
     → DoesAndTells Does old new answer → ((b : List ℕ) (n : Talk) → Does old n → Obeyed b b old n) → IsDone Obeyed IsShort IsBad x x old new answer
 does_of (Ok t) Does Obeyed IsShort IsBad x old new it gives = between_none x (λ b a. Obeyed b a old new) (λ b. gives b new it)
@@ -132,7 +133,7 @@ does_of (Err e) Does Obeyed IsShort IsBad x old new it gives =
     subst (λ (fault : ScriptFault). IsNotDone Obeyed IsShort IsBad x old new fault) (sym it.0)
     (known x.rest (λ b. (new.client ≡ old.client) ⊎ ((a : List ℕ) × (w : Option (List ℕ)) × Obeyed b a old (talk new.client w))) (λ b. inr (b, it.1, gives b (talk new.client it.1) it.2)))
 
--- what could not be read after a part that was read
+-- if what comes after a part that was read can't be read, then the whole can't be read
 pub unread_before : (x y : Ahead) (P : List ℕ → List ℕ → Type 0) (left : ℕ) (fault : ScriptFault) → Between x y P → IsNotRead y left fault → IsNotRead x left fault
 unread_before x y P left BadLine one why = absurd why
 unread_before x y P left EndOfScript one why = absurd why
@@ -141,7 +142,7 @@ unread_before x y P left ReadFault one why = tt
 unread_before x y P left WriteFault one why = absurd why
 unread_before x y P left Stopped one why = absurd why
 
--- a source, or the end of its line, could not be read
+-- if the end of a source's line could not be read, the source could not be read
 pub no_source : (x y : Ahead) (P : List ℕ → List ℕ → Type 0) (count left : ℕ) (fault : ScriptFault) → Between x y P → IsNotRead y left fault → IsNoSource x count left fault
 no_source x y P count left BadLine one why = absurd why
 no_source x y P count left EndOfScript one why = absurd why
@@ -171,7 +172,7 @@ not_sent Does IsBad x count left h Stopped why = absurd why
 
 -- ---- lines
 
--- what a line asks for that is not too long
+-- a line of at most 128 bytes asks for what its dialect says
 pub asks_short : (dialect : Dialect) (line : List ℕ) → length line ≤ 128 → asked_by_line dialect line ≡ asked_of dialect line
 asks_short dialect line short = grind (arith, nat_tests)
 
@@ -198,7 +199,7 @@ line_left before after line TooLong is other = λ none.
     let whole = ap (λ (l : List ℕ). length l) (sym is.1 ∙ none) in
     absurd (omega (arith, both, whole, is.2))
 
--- a line that is longer than allowed is a step that calls nothing
+-- a line that is longer than allowed is a step that makes no call
 pub too_long_step : (mode : Mode) → (dialect : Dialect) (before between after line : List ℕ) (old new : Talk) → IsNext before TooLong line between → ((rest : List ℕ) × IsLine between rest after)
     → Writes (script_fault_text BadLine) old new → IsStep mode dialect before after old new
 too_long_step mode dialect before between after line old new next skipped wrote =
@@ -224,7 +225,7 @@ obeyed_step mode dialect before between after line old new short some is obeyed 
 
 -- ---- scripts
 
--- one step more
+-- if some lines are played, and one more step is done, that is one more turn
 pub plays_on : (mode : Mode) → (dialect : Dialect) (MayBegin : MemberView → Type 0) (before : List ℕ) (old : Talk) (turns : List Turn) (between : List ℕ) (now : Talk) (after : List ℕ) (new : Talk)
     → Plays mode dialect MayBegin before old turns between now → MayBegin now.client → IsStep mode dialect between after now new
     → Plays mode dialect MayBegin before old (turns ++ (record { rest = after; talk = new }) ∷ []) after new
@@ -242,13 +243,13 @@ pub played : (mode : Mode) → (dialect : Dialect) (most : Option ℕ) (script :
 played mode dialect most script first turns rest last few plays over =
     record { turns = turns; few = few; plays = subst (λ (l : List ℕ). Plays mode dialect (IsLight most first.client) script first turns l last) over plays }
 
--- the next step, whose answer could not be written
+-- the client is as before the next step, or as after that step, whose answer could not be written
 abbrev pub NextIs : (mode : Mode) → Dialect → (most : Option ℕ) (first : MemberView) (lines : ℕ) (rest : List ℕ) (between : Talk) (last : MemberView) → Type 0
 NextIs mode dialect most first lines rest between last =
     (last ≡ between.client)
     ⊎ (IsWithin most (lines + 1) × IsLight most first between.client × (after : List ℕ) × (written : Option (List ℕ)) × IsStep mode dialect rest after between (talk last written))
 
--- a prefix of the script, and perhaps the next step
+-- if a prefix of the script is done, and perhaps the next step, the script is played in part
 pub played_up_to : (mode : Mode) → (dialect : Dialect) (most : Option ℕ) (script : List ℕ) (first : Talk) (turns : List Turn) (rest : List ℕ) (between last : Talk) → IsWithin most (length turns)
     → Plays mode dialect (IsLight most first.client) script first turns rest between → NextIs mode dialect most first.client (length turns) rest between last.client
     → IsPlayedInPart mode dialect most script first last
@@ -259,7 +260,7 @@ some_left x y next line it other = known_by x y (λ b a. IsNext b next line a) (
 
 -- ---- lines that are refused, and sources
 
--- a step whose line is skipped; 50 is written for it first
+-- if 50 was written for a line and the line was skipped, its step was done; else the step was not done
 pub skipped : {T : Type 0} (answer : Result T ScriptFault) (Does : List ℕ → List ℕ → Talk → Talk → Type 0) (IsShort IsBad : List ℕ → Type 0) (x y z : Ahead) (left : ℕ) (old new : Talk)
     (P : List ℕ → List ℕ → Type 0) → new.client ≡ old.client → Between x y P → OnOk answer (Between y z (λ b a. (rest : List ℕ) × IsLine b rest a))
     → OnOk answer (Appends old.written new.written (script_fault_text BadLine))
@@ -274,7 +275,7 @@ skipped (Err e) Does IsShort IsBad x y z left old new P same one two wrote (inl 
 skipped (Err e) Does IsShort IsBad x y z left old new P same one two wrote (inr why) bad on =
     not_read Does IsShort IsBad x left old new e (inr (known_by x y P IsBad one (λ b m p. bad b m p), (same, why.0))) (unread_before x y P left e one why.1)
 
--- a source, and what comes after it
+-- if a source and what comes after it were read, `sent` is what was sent
 pub sent_step : (b m a : List ℕ) (count : ℕ) (source : Option (Vec ℕ Global)) (is_ended : Bool) (sent : Sent) → IsSentAs source is_ended sent
     → IsSource b count (option_map (λ bytes. bytes.items) source) m → IsLineEnd m is_ended a → HasSent b count sent a
 sent_step b m a count (Some bytes) true sent is read ended =
@@ -295,7 +296,7 @@ sent_on x y z count source is_ended sent is read ended =
     between_then x y z (λ b a. IsSource b count (option_map (λ bytes. bytes.items) source) a) (λ b a. IsLineEnd b is_ended a) (λ b a. HasSent b count sent a) read ended
     (λ b m a one two. sent_step b m a count source is_ended sent is one two)
 
--- a script that has not been read at all
+-- if nothing of a script was read, all its bytes are ahead
 pub unread : (remaining : Option (List ℕ)) → ◌≡◌ {A = Ahead} (record { rest = rest_from [] false remaining; left = 16777216 }) (record { rest = remaining; left = 16777216 })
 unread None = refl
 unread (Some bytes) = refl

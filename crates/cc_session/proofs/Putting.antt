@@ -34,7 +34,7 @@ sent_as Does bytes sent same count b a old new has it = record {
   called = inl (has.4, subst (λ (k : List ℕ). Does k old new ⊎ Writes no_memory_text old new) (same ∙ has.5) it);
 }
 
--- a step that does something with the bytes that were sent
+-- if the bytes that were sent were handed to `Does`, the line's step was done
 pub sent_step : {T : Type 0} (answer : Result T ScriptFault) (Does : List ℕ → Talk → Talk → Type 0) (bytes : Vec ℕ Global) (sent : List ℕ) → sent ≡ bytes.items
     → (count : ℕ) (x y : Ahead) (old new : Talk) → Between x y (λ b a. HasSent b count (Source bytes) a) → DoesAndTells (DoesOr (Does sent)) old new answer
     → IsDone (λ b a o n. IsSentTo Does count b a o n) (IsShortOf count) (IsUnended count) x y old new answer
@@ -45,7 +45,7 @@ sent_step (Err fault) Does bytes sent same count x y old new read it =
     (known_by x y (λ b a. HasSent b count (Source bytes) a) (λ b. (new.client ≡ old.client) ⊎ ((a : List ℕ) × (w : Option (List ℕ)) × IsSentTo Does count b a old (talk new.client w))) read
     (λ b a has. inr (a, it.1, sent_as Does bytes sent same count b a old (talk new.client it.1) has it.2)))
 
--- a step whose bytes are followed by something other than a newline
+-- if the bytes that were sent are followed by something other than a newline, the step only writes 50
 pub skip_step : {T : Type 0} (answer : Result T ScriptFault) (Does : List ℕ → Talk → Talk → Type 0) (count : ℕ) (x y z : Ahead) (left : ℕ) (old new : Talk)
     → new.client ≡ old.client → Between x y (λ b a. HasSent b count Unended a) → OnOk answer (Between y z (λ b a. (rest : List ℕ) × IsLine b rest a))
     → OnOk answer (Appends old.written new.written (script_fault_text BadLine))
@@ -66,7 +66,7 @@ skip_step answer Does count x y z left old new same read skips wrote why =
       );
     })
 
--- a step whose bytes had no room
+-- if there was no room for the bytes that were sent, the step only writes 40
 pub unsent_step : {T : Type 0} (answer : Result T ScriptFault) (Does : List ℕ → Talk → Talk → Type 0) (count : ℕ) (x y : Ahead) (old new : Talk)
     → new.client ≡ old.client → Between x y (λ b a. HasSent b count NoRoom a) → Tells old.written new.written no_memory_text answer
     → IsDone (λ b a o n. IsSentTo Does count b a o n) (IsShortOf count) (IsUnended count) x y old new answer
@@ -80,7 +80,7 @@ unsent_step answer Does count x y old new same read told =
       called = inl (it.4, inr (same, wrote));
     }))
 
--- a step whose bytes were read, but another source had no room
+-- if the bytes were read, but there was no room for another source, the step only writes 40
 pub unasked_step : {T : Type 0} (answer : Result T ScriptFault) (Does : List ℕ → Talk → Talk → Type 0) (bytes : Vec ℕ Global) (count : ℕ) (x y : Ahead) (old new : Talk)
     → new.client ≡ old.client → Between x y (λ b a. HasSent b count (Source bytes) a) → Tells old.written new.written no_memory_text answer
     → IsDone (λ b a o n. IsSentTo Does count b a o n) (IsShortOf count) (IsUnended count) x y old new answer
@@ -95,7 +95,7 @@ begun_before : (x y : Ahead) (One : List ℕ → List ℕ → Type 0) (Bad First
 begun_before x y One Bad First old new read on (inl same) = inl same
 begun_before x y One Bad First old new read on (inr it) = inr (known_then x y One Bad First read it.0 on, it.1)
 
--- a step that comes after a part that was read
+-- if a step was done after a part that was read, the two are one step
 pub done_then : {T : Type 0} (answer : Result T ScriptFault) (One : List ℕ → List ℕ → Type 0) (Does : List ℕ → List ℕ → Talk → Talk → Type 0) (Short Bad : List ℕ → Type 0)
     (Whole : List ℕ → List ℕ → Talk → Talk → Type 0) (ShortWhole BadWhole : List ℕ → Type 0) (x y z : Ahead) (old new : Talk) → Between x y One → IsDone Does Short Bad y z old new answer
     → ((b m a : List ℕ) (n : Talk) → One b m → Does m a old n → Whole b a old n) → ((b m : List ℕ) → One b m → Short m → ShortWhole b) → ((b m : List ℕ) → One b m → Bad m → BadWhole b)
@@ -131,7 +131,8 @@ updates_as : (mode : Mode) (name expected : List ℕ) (given : Option (List ℕ)
 updates_as mode name expected (Some e) source old new is it = subst (λ (k : List ℕ). CallsAndWrites (UpdateAnswers mode name k source) (SaysChange source) old new) is it
 updates_as mode name expected None source old new is it = absurd it
 
--- the update with an expected source, if there was room for that source
+-- if both sources of an update were read, and the second was handed on with the first (if there was room for that), both
+-- were sent
 sent_twice : (mode : Mode) (name expected rest between : List ℕ) (many count : ℕ) (given : Option (List ℕ)) (b a : List ℕ) (old new : Talk) → b ≡ expected ++ rest → length expected ≡ many
     → IsLine rest [] between → IfSome given (λ e. e ≡ take 65537 expected) → IsSentTo (λ source o n. UpdatesIf mode name given source o n) count between a old new
     → IsSentTwice mode name many count b a old new
@@ -158,7 +159,7 @@ twice_step mode answer name bytes sent same many count x y z old new read it =
     (λ b m a n one two. sent_twice mode name one.0 one.1 m many count (Some sent) b a old n one.2 one.3 one.4 (same ∙ one.5) two)
     (λ b m one two. inr (one.0, one.1, m, one.2, one.3, one.4, two)) (λ b m one two. inr (one.0, one.1, m, one.2, one.3, one.4, two))
 
--- an update whose first source had no room
+-- if there was no room for the first source of an update, the step was done once the second was read
 pub twice_unasked : (mode : Mode) → {T : Type 0} (answer : Result T ScriptFault) (name : List ℕ) (many count : ℕ) (x y z : Ahead) (old new : Talk) → Between x y (λ b a. HasSent b many NoRoom a)
     → IsDone (λ b a o n. IsSentTo (λ source p q. UpdatesIf mode name None source p q) count b a o n) (IsShortOf count) (IsUnended count) y z old new answer
     → IsDone (λ b a o n. IsSentTwice mode name many count b a o n) (IsShortOfTwo many count) (IsUnendedOfTwo many count) x z old new answer
@@ -168,7 +169,7 @@ twice_unasked mode answer name many count x y z old new read it =
     (λ b m a n one two. sent_twice mode name one.0 one.1 m many count None b a old n one.2 one.3 one.4 tt two)
     (λ b m one two. inr (one.0, one.1, m, one.2, one.3, one.4, two)) (λ b m one two. inr (one.0, one.1, m, one.2, one.3, one.4, two))
 
--- an update whose first source is followed by something other than a newline
+-- if the first source of an update is followed by something other than a newline, the step only writes 50
 pub twice_skip : (mode : Mode) → {T : Type 0} (answer : Result T ScriptFault) (name : List ℕ) (many count : ℕ) (x y z : Ahead) (left : ℕ) (old new : Talk)
     → new.client ≡ old.client → Between x y (λ b a. HasSent b many Unended a) → OnOk answer (Between y z (λ b a. (rest : List ℕ) × IsLine b rest a))
     → OnOk answer (Appends old.written new.written (script_fault_text BadLine))
@@ -189,7 +190,7 @@ twice_skip mode answer name many count x y z left old new same read skips wrote 
       );
     })
 
--- an update whose first source could not be read
+-- if the first source of an update could not be read, the step was not done
 pub twice_unread : (mode : Mode) → (name : List ℕ) (many count : ℕ) (x : Ahead) (left : ℕ) (h : Talk) (fault : ScriptFault) → IsNoSource x many left fault
     → IsNotDone (λ b a o n. IsSentTwice mode name many count b a o n) (IsShortOfTwo many count) (IsUnendedOfTwo many count) x h h fault
 twice_unread mode name many count x left h BadLine why = absurd why
@@ -201,21 +202,22 @@ twice_unread mode name many count x left h Stopped why = absurd why
 
 -- ---- a unit that is put
 
--- what was put is a text that was prepared: its mode and its bytes are those that were asked for, and the client was the same
+-- if a prepared text has the mode and the bytes that were asked for, and the client made no call meanwhile, putting it is
+-- putting that source
 pub put_as : (put : Put) (name : List ℕ) (its mode : Mode) (text source : List ℕ) (before old new : MemberView) (answer : Result Receipt ServiceFault) → its ≡ mode → text ≡ source → before ≡ old
     → PutAnswers its (Puts put its name text) name text before new answer → PutAnswers mode (Puts put mode name source) name source old new answer
 put_as put name its mode text source before old new answer one two three it =
     subst (λ (h : MemberView). PutAnswers mode (Puts put mode name source) name source h new answer) three
     (subst (λ (t : List ℕ). PutAnswers mode (Puts put mode name t) name t before new answer) two (subst (λ (m : Mode). PutAnswers m (Puts put m name text) name text before new answer) one it))
 
--- a unit that was put by the same client
+-- if a unit was put, and the client made no call before that, the answer is that of a change
 pub put_from : {T : Type 0} (result : Result T ScriptFault) (mode : Mode) (put : Put) (name source : List ℕ) (before old new : MemberView) (one two : Option (List ℕ)) → before ≡ old
     → CallsAndTells (PutAnswers mode (Puts put mode name source) name source) (SaysChange source) (talk before one) (talk new two) result
     → CallsAndTells (PutAnswers mode (Puts put mode name source) name source) (SaysChange source) (talk old one) (talk new two) result
 put_from result mode put name source before old new one two same it =
     subst (λ (h : MemberView). CallsAndTells (PutAnswers mode (Puts put mode name source) name source) (SaysChange source) (talk h one) (talk new two) result) same it
 
--- a unit that was not put for want of memory, or of a worker: the client is as it was
+-- if a unit was not put because memory was refused or a worker is gone, the client is unchanged
 pub put_not : (mode : Mode) (put : Put) (name source : List ℕ) (old new : MemberView) (answer : Result Receipt ServiceFault) → (answer ≡ Err OutOfMemory) ⊎ (answer ≡ Err WorkersGone)
     → PutAnswers mode (Puts put mode name source) name source old new answer → new ≡ old
 put_not mode put name source old new answer (inl is) it = (subst (λ (a : Result Receipt ServiceFault). PutAnswers mode (Puts put mode name source) name source old new a) is it).1

@@ -30,7 +30,18 @@ done_by mode played end script begun answer old new how is grows = (ends_by mode
 
 -- ---- scripts in turn
 
--- nothing was done
+-- Chains of equations, and chains in which a list gains one element at one step. The caller names the intermediate values. If
+-- they were inferred, they would be written out whole: a spool after several calls is a large term.
+pub after_two : {T : Type 0} (x y z : T) → x ≡ y → y ≡ z → x ≡ z
+after_two x y z one two = one ∙ two
+
+pub one_more_first : {T : Type 0} (before asked next given : List T) (x : T) → given ≡ next → next ≡ asked ++ x ∷ [] → asked ≡ before → given ≡ before ++ x ∷ []
+one_more_first {T} before asked next given x last more first = last ∙ (more ∙ ap (λ (l : List T). l ++ x ∷ []) first)
+
+pub one_more_last : {T : Type 0} (before asked next given : List T) (x : T) → given ≡ next ++ x ∷ [] → next ≡ asked → asked ≡ before → given ≡ before ++ x ∷ []
+one_more_last {T} before asked next given x more last first = more ∙ ap (λ (l : List T). l ++ x ∷ []) (last ∙ first)
+
+-- if a spool is unchanged, nothing was done
 pub done_same : (mode : Mode) → (x y : Given) (h : MemberView) → y.taken ≡ x.taken → y.ended ≡ x.ended → HasDone mode x h y h
 done_same mode x y h taken ended = record {
   scripts = [];
@@ -40,7 +51,7 @@ done_same mode x y h taken ended = record {
   done = refl;
 }
 
--- one script was done
+-- if one script was taken, done and answered, `HasDone` holds
 pub done_script : (mode : Mode) → (x y : Given) (old new : MemberView) (script : Taken) (answer : Delivered) → y.taken ≡ x.taken ++ script ∷ [] → y.ended ≡ x.ended ++ answer ∷ []
     → IsDoneBy mode script answer old new → HasDone mode x old y new
 done_script mode x y old new script answer taken ended done = record {
@@ -57,7 +68,7 @@ are_done_on mode (x ∷ s) t (y ∷ d) e a b c one two = (one.0, one.1, are_done
 are_done_on mode [] t (y ∷ d) e a b c one two = absurd one
 are_done_on mode (x ∷ s) t [] e a b c one two = absurd one
 
--- some scripts were done, and then more
+-- if some scripts were done, and then more, all of them were done
 pub done_on : (mode : Mode) → (x y z : Given) (a b c : MemberView) → HasDone mode x a y b → HasDone mode y b z c → HasDone mode x a z c
 done_on mode x y z a b c one two = record {
   scripts = one.scripts ++ two.scripts;
@@ -76,7 +87,7 @@ or_this None d = d
 from_some : {A : Type 0} (a b : A) → Some a ≡ Some b → a ≡ b
 from_some {A} a b same = ap (λ (o : Option A). or_this o a) same
 
--- what is at an index of a mapped list
+-- if a mapped list has `b` at an index, `b` is the image of the element there
 at : {P B : Type 0} (xs : List P) (f : P → B) (i : ℕ) (d : P) (b : B) → i < length xs → slice_get (map f xs) i ≡ Some b → f (get_or xs i d) ≡ b
 at {P} {B} xs f i d b within is =
     from_some (f (get_or xs i d)) b (sym (slice_get-map f xs i ∙ ap (λ (o : Option P). option_map f o) (slice_get-get_or xs i d within)) ∙ is)
@@ -87,7 +98,7 @@ done_as mode a b c d first last other one two three it =
     (subst (λ (g : Given). HasDone mode c first g last) two (subst (λ (g : Given). HasDone mode g first b last) one it))
 
 module _ (mode : Mode) {P : Type 0} (given : P → Given) (member : P → MemberView) where
-  -- each client with its spool
+  -- each client did what its own spool gave
   abbrev pub Each : (olds news : List P) → Type 0
   Each olds news = (i : ℕ) (d : P) → i < length olds → HasDone mode (given (get_or olds i d)) (member (get_or olds i d)) (given (get_or news i d)) (member (get_or news i d))
 
@@ -113,11 +124,11 @@ module _ (mode : Mode) {P : Type 0} (given : P → Given) (member : P → Member
         ];
   }
 
--- the slice of a vector has this content after it was changed
+-- if a slice of a vector was changed to `news`, the vector begins with `news`
 whole : {P : Type 0} (n : ℕ) (news rest : List P) → length news ≡ n → take n (news ++ rest) ≡ news
 whole n news rest many = subst (λ (m : ℕ). take m (news ++ rest) ≡ news) many (take-append_seam news rest)
 
--- the same for clients and their spools once they are taken apart
+-- each client did what its own spool gave, once the clients and the spools are taken apart
 module _ (mode : Mode) {P S C : Type 0} (spool : P → S) (client : P → C) (by : S → Given) (member : C → MemberView) where
   pub have_done_by : (olds news rest : List P) (given left : List S) (clients : List C) (n : ℕ) → map spool olds ≡ given → length news ≡ n → length olds ≡ n
       → All (λ p. (member (client p)).receipts ≡ []) olds → Each mode (λ p. by (spool p)) (λ p. member (client p)) olds news
@@ -132,7 +143,7 @@ module _ (mode : Mode) {P S C : Type 0} (spool : P → S) (client : P → C) (by
       (subst (λ (l : List Given). HaveDone mode (map (λ p. by (spool p)) olds) l (map member clients)) after
       (subst (λ (l : List MemberView). HaveDone mode (map (λ p. by (spool p)) olds) (map (λ p. by (spool p)) news) l) who done))
 
--- clients that have made no call
+-- if no client in a list has made a call, neither has the client at any index
 pub none_of : {C : Type 0} (member : C → MemberView) (xs : List C) → All (λ c. (member c).receipts ≡ []) xs → (i : ℕ) (client : MemberView) → slice_get (map member xs) i ≡ Some client
     → client.receipts ≡ []
 none_of {C} member xs fresh i client is =

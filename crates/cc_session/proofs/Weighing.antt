@@ -18,7 +18,7 @@ counts_none first held seen bytes = record { more = []; now_is = sym (append-nil
 told_both : (a b : ℕ) → at_most_told (at_most_told a + at_most_told b) ≡ at_most_told (a + b)
 told_both a b = grind (arith)
 
--- the receipts that came since the last count
+-- the receipts after the first `held.seen` are those that came since the last count
 new_ones : (first old now grown : List Receipt) (held : Held) → held.seen ≡ length old → now ≡ old ++ grown → drop held.seen now ≡ grown
 new_ones first old now grown held seen is =
     subst (λ (n : ℕ). drop n now ≡ grown) (sym seen) (subst (λ (l : List Receipt). drop (length old) l ≡ grown) (sym is) (drop-append_seam old grown))

@@ -12,8 +12,8 @@ GoesOn zero (Fault number) = ⊥
 GoesOn (suc before) (Fault number) = (number ≡ 40) ⊎ (number ≡ 41)
 
 -- How serving on ends if it began with this disk and these spools, each generation ends as `Ends` says, and `earlier` generations
--- came before the last. The first generation begins with the disk and spools of the beginning, each later one with those that the
--- one before it left.
+-- came before the last. The first generation begins with that disk and those spools, each later one with the disk and spools that
+-- the one before it left.
 abbrev pub ServesOn : {D : Type 0} (Ends : (spools_before spools_after : List Given) (before after : D) → SessionEnd → Type 0) (earlier : ℕ)
     (spools_before spools_after : List Given) (before after : D) → SessionEnd → Type 0
 ServesOn Ends zero spools_before spools_after before after end = Ends spools_before spools_after before after end

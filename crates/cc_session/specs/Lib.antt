@@ -1,10 +1,10 @@
 -- What an audit says about a unit that was found.
 pub mod Auditing
--- What is written of a part of a unit that was found.
+-- What is written for a part of a unit that was found.
 pub mod Showing
--- What is written of what a service answered, byte for byte.
+-- How an answer of a service is written, byte for byte.
 pub mod Telling
--- What a script means for the client that runs it, and what is written of it.
+-- What a script means for the client that runs it, and what is written for it.
 pub mod Playing
 -- How sessions end.
 pub mod Session
@@ -12,5 +12,5 @@ pub mod Session
 pub mod Spooling
 -- How the generations of serving follow one another.
 pub mod Generations
--- What only private contracts use.
+-- Definitions that only private contracts use.
 pub mod internal

@@ -1,5 +1,5 @@
--- What a script means for the client that runs it. Line by line: the call of the service, what its answer makes of the client,
--- and what is written of it.
+-- What a script means for the client that runs it. For each line: the call of the service, how the answer changes the client, and
+-- what is written.
 use Rattle.std.specs.Prelude.{◌≡◌, ◌≢◌, ◌⊎◌, ◌+◌, ◌<◌, ◌≤◌, ℕ, Bool, true, false, List, [], ◌∷◌, ◌++◌, All, drop, length, take, nat_le, if◌then◌else◌, Option, Some, None, IfSome, Result, Ok, Err, IfErr, codes}
 use Rattle.std.specs.Io.KnownBytes.{Appends}
 use Rattle.cc_script.specs.Line.{ScriptRequest, Add, Replace, Withdraw, Names, Run, Compact, Audit, Image, Source, AuditOne, Update, Call, Space, asked_of}
@@ -35,7 +35,7 @@ pub record Talk : Type 0 where
 abbrev pub talk : MemberView → (written : Option (List ℕ)) → Talk
 talk client written = record { client = client; written = written }
 
--- the client called, and this says what was written of the answer
+-- the client made a call that `Answers` describes, and `Says` holds of its answer and the text that was written
 abbrev pub CallsAndWrites : (Answers : MemberView → MemberView → Result Receipt ServiceFault → Type 0) (Says : Result Receipt ServiceFault → List ℕ → Type 0) → (old new : Talk) → Type 0
 CallsAndWrites Answers Says old new =
     (answer : Result Receipt ServiceFault) × Answers old.client new.client answer × (text : List ℕ) × Says answer text × Appends old.written new.written text
@@ -44,8 +44,8 @@ CallsAndWrites Answers Says old new =
 abbrev pub Writes : (text : List ℕ) → (old new : Talk) → Type 0
 Writes text old new = (new.client ≡ old.client) × Appends old.written new.written text
 
--- The bytes that come after a line: `count` of them, then a newline or the end. `Does` is applied to them; if they are more than
--- 65,536, it gets the first 65,537, which are too many. If there is no room for them, or if another byte follows, nothing is
+-- The bytes that come after a line: `count` of them, then a newline or the end. `Does` is applied to them; if there are more than
+-- 65,536, it gets the first 65,537, which are too many. If there is no room for the bytes, or if another byte follows, nothing is
 -- called; in the second case the rest of that line is skipped.
 pub record IsSentTo (Does : (bytes : List ℕ) → Talk → Talk → Type 0) (count : ℕ) (before after : List ℕ) (old new : Talk) : Type 0 where
   pub source : List ℕ
@@ -56,13 +56,12 @@ pub record IsSentTo (Does : (bytes : List ℕ) → Talk → Talk → Type 0) (co
       (IsLine rest [] after × (Does (take 65537 source) old new ⊎ Writes no_memory_text old new))
       ⊎ ((behind : List ℕ) × (0 < length behind) × IsLine rest behind after × Writes (script_fault_text BadLine) old new)
 
--- The source that comes after a line: the call takes it, to compile it in the mode.
+-- The source that comes after a line is handed to the call, which compiles it in the mode.
 abbrev pub IsSent : (mode : Mode) (Asks : Mode → (name source : List ℕ) → Command → Type 0) (name : List ℕ) (count : ℕ) (before after : List ℕ) (old new : Talk) → Type 0
 IsSent mode Asks name count before after old new =
     IsSentTo (λ source o n. CallsAndWrites (PutAnswers mode (Asks mode name source) name source) (SaysChange source) o n) count before after old new
 
--- Two sources that come after a line, each followed by a newline or the end: the unit under the name has to have the first one as
--- its source, and is replaced with a unit of the second.
+-- Two sources after a line: the unit under the name must have the first one, and is replaced with one compiled from the second.
 pub record IsSentTwice (mode : Mode) (name : List ℕ) (expected_count count : ℕ) (before after : List ℕ) (old new : Talk) : Type 0 where
   pub expected : List ℕ
   pub rest : List ℕ
@@ -73,18 +72,17 @@ pub record IsSentTwice (mode : Mode) (name : List ℕ) (expected_count count : �
       × IsSentTo (λ source o n. CallsAndWrites (UpdateAnswers mode name (take 65537 expected) source) (SaysChange source) o n) count between after old new)
       ⊎ ((behind : List ℕ) × (0 < length behind) × IsLine rest behind after × Writes (script_fault_text BadLine) old new)
 
--- the input words of at most 65,536 bytes
+-- the input words in these bytes, if there are at most 65,536 bytes
 abbrev pub words_of : (bytes : List ℕ) → Option (List ℕ)
 words_of bytes = if nat_le (length bytes) 65536 then input_in bytes else None
 
--- the unit under the name is run on the words; the answer is 50 if there are none
+-- the unit under the name is run on the words; if the bytes are not words, the answer is 50
 abbrev pub CallsOn : (name : List ℕ) (steps : ℕ) → (words : Option (List ℕ)) → (old new : Talk) → Type 0
 CallsOn name steps (Some words) old new = CallsAndWrites (GetAnswers name) (SaysRunOn words steps) old new
 CallsOn name steps None old new = Writes (script_fault_text BadLine) old new
 
--- The units under these names are fetched and audited in the mode, with one call and one line for each, in their order. Either
--- all are found and audited; or the last one is the first that is refused, or the first that is found but whose audit had no
--- memory.
+-- The units under these names are fetched and audited in the mode, with one call and one line for each, in order. Either all are
+-- found and audited; or the last one is the first that is refused, or that is found but whose audit ran out of memory.
 abbrev pub AuditsEach : Mode → (names : List (List ℕ)) (all : Bool) (old new : Talk) → Type 0
 AuditsEach mode [] true old new = new ≡ old
 AuditsEach mode [] false old new = ⊥
@@ -97,7 +95,7 @@ abbrev pub EndsAudit : (all : Bool) (old new : Talk) → Type 0
 EndsAudit true old new = Writes (line (codes "ok")) old new
 EndsAudit false old new = new ≡ old
 
--- the names are listed, which writes no line, and the units of the names in the answer are audited
+-- the names are listed, which writes no line, and the units under the names in the answer are audited
 pub record ListsAndAudits (mode : Mode) (old new : Talk) : Type 0 where
   pub receipt : Receipt
   pub names : List (List ℕ)
@@ -121,11 +119,11 @@ AuditsOne mode name old new = (all : Bool) × (last : Talk) × AuditsEach mode (
 abbrev pub IsCompacted : Result (Unit {0}) ServiceFault → Type 0
 IsCompacted answer = IfErr answer (λ fault. (why : BookFault) × (fault ≡ Book why) × IsNotCompacted why)
 
--- the service answered a compaction; this is no client's call, and leaves no receipt
+-- the service answered a compaction; this is not a call of a client, and leaves no receipt
 abbrev pub Compacts : (old new : Talk) → Type 0
 Compacts old new = (answer : Result (Unit {0}) ServiceFault) × IsCompacted answer × Writes (done_text answer) old new
 
--- The service answered how much of its area the library takes, or 36. This is no client's call, and leaves no receipt.
+-- The service answered how much of its area the library takes, or 36. This is not a call of a client, and leaves no receipt.
 abbrev pub Measures : (old new : Talk) → Type 0
 Measures old new = (answer : Result SpaceUse ServiceFault) × SpaceAnswers answer × Writes (room_text answer) old new
 
@@ -151,8 +149,7 @@ Obeys mode None before after old new = (after ≡ before) × Writes (script_faul
 abbrev pub asked_by_line : Dialect → List ℕ → Option ScriptRequest
 asked_by_line dialect line = if nat_le (length line) 128 then asked_of dialect line else None
 
--- One line of a script of this dialect is done in the mode, with the source after it if it has one. There is a line only if a
--- byte is left.
+-- One line of a script of this dialect is done in the mode, with its source, if it has one. There is a line only if a byte is left.
 pub record IsStep (mode : Mode) (dialect : Dialect) (before after : List ℕ) (old new : Talk) : Type 0 where
   pub some : before ≢ []
   pub line : List ℕ
@@ -160,13 +157,13 @@ pub record IsStep (mode : Mode) (dialect : Dialect) (before after : List ℕ) (o
   pub is_line : IsLine before line rest
   pub obeyed : Obeys mode (asked_by_line dialect line) rest after old new
 
--- what is left of the script after a step, with the client and its answers at that point
+-- what is left of the script after a step, and the client and its answers at that point
 pub record Turn : Type 0 where
   pub rest : List ℕ
   pub talk : Talk
 
--- The script is done line by line, from what is left and from the client at the beginning. Each client before a line may begin
--- it. So the writer holds the lines of the turns in their order, and no other byte.
+-- The script is done line by line, from what is left and from the client at the beginning. `MayBegin` holds of the client before
+-- each line. So the writer holds the lines of the turns, in order, and no other byte.
 abbrev pub Plays : Mode → Dialect → (MayBegin : MemberView → Type 0) → (before : List ℕ) (old : Talk) → List Turn → (after : List ℕ) (new : Talk) → Type 0
 Plays mode dialect MayBegin before old [] after new = (after ≡ before) × (new ≡ old)
 Plays mode dialect MayBegin before old (turn ∷ turns) after new =
@@ -181,8 +178,8 @@ IsWithin (Some most) lines = lines ≤ most
 abbrev pub held_since : (first now : MemberView) → ℕ
 held_since first now = receipts_bytes (drop (length first.receipts) now.receipts)
 
--- If there is a bound on the lines, there is also a bound on these bytes since the script's beginning: 256 MiB. A line may be
--- begun as long as they do not exceed it.
+-- If there is a bound on the lines, the receipts since the script's beginning are bounded too: to 256 MiB. A line may be begun as
+-- long as they do not exceed that.
 abbrev pub IsLight : (most : Option ℕ) (first now : MemberView) → Type 0
 IsLight None first now = Unit {0}
 IsLight (Some most) first now = held_since first now ≤ 268435456
@@ -193,8 +190,8 @@ pub record IsPlayed (mode : Mode) (dialect : Dialect) (most : Option ℕ) (scrip
   pub few : IsWithin most (length turns)
   pub plays : Plays mode dialect (IsLight most first.client) script first turns [] last
 
--- A prefix of it is done. The client at the end is as these steps left it, or as it would be after one more step, whose answer
--- could not be written (for an audit: as an audit that had no memory at that point). What the writer holds is not known.
+-- A prefix of the script is done. The client at the end is as these steps left it, or as it would be after one more step, whose answer
+-- could not be written (for an audit: after an audit that ran out of memory at that point). What the writer holds is not known.
 pub record IsPlayedInPart (mode : Mode) (dialect : Dialect) (most : Option ℕ) (script : List ℕ) (first last : Talk) : Type 0 where
   pub turns : List Turn
   pub few : IsWithin most (length turns)
@@ -208,7 +205,7 @@ pub record IsPlayedInPart (mode : Mode) (dialect : Dialect) (most : Option ℕ) 
 
 -- ---- scripts that a fault ends
 
--- this many bytes are there, with a newline or the end after them, and `Holds` is true of what is left then
+-- there are this many bytes, with a newline or the end after them, and `Holds` is true of what is left after those
 abbrev pub IsAfter : (count : ℕ) (Holds : List ℕ → Type 0) (rest : List ℕ) → Type 0
 IsAfter count Holds rest =
     (source : List ℕ) × (between : List ℕ) × (behind : List ℕ) × (rest ≡ source ++ between) × (length source ≡ count) × IsLine between [] behind × Holds behind
@@ -217,7 +214,7 @@ IsAfter count Holds rest =
 abbrev pub IsShortOfTwo : (expected count : ℕ) (rest : List ℕ) → Type 0
 IsShortOfTwo expected count rest = (length rest < expected) ⊎ IsAfter expected (λ behind. length behind < count) rest
 
--- a line that asks for this needs more bytes after it than are left there
+-- a line that asks for this needs more bytes after it than are left
 abbrev pub IsCutShort : Option ScriptRequest → (rest : List ℕ) → Type 0
 IsCutShort (Some (Add name count)) rest = length rest < count
 IsCutShort (Some (Replace name count)) rest = length rest < count
@@ -232,15 +229,15 @@ pub record EndsInSource (dialect : Dialect) (before : List ℕ) : Type 0 where
   pub is_line : IsLine before line rest
   pub short : IsCutShort (asked_by_line dialect line) rest
 
--- this many bytes are followed by another byte than a newline
+-- this many bytes are followed by a byte other than a newline
 abbrev pub IsUnended : (count : ℕ) (rest : List ℕ) → Type 0
 IsUnended count rest = (source : List ℕ) × (byte : ℕ) × (after : List ℕ) × (rest ≡ source ++ byte ∷ after) × (length source ≡ count) × (byte ≢ 10)
 
--- the same for one of two sources
+-- one of two sources, of `expected` and of `count` bytes, is followed by a byte other than a newline
 abbrev pub IsUnendedOfTwo : (expected count : ℕ) (rest : List ℕ) → Type 0
 IsUnendedOfTwo expected count rest = IsUnended expected rest ⊎ IsAfter expected (IsUnended count) rest
 
--- a line that asks for this has a source after it that no newline ends
+-- a source that comes after a line that asks for this is followed by a byte other than a newline
 abbrev pub HasUnended : Option ScriptRequest → (rest : List ℕ) → Type 0
 HasUnended (Some (Add name count)) rest = IsUnended count rest
 HasUnended (Some (Replace name count)) rest = IsUnended count rest
@@ -248,7 +245,7 @@ HasUnended (Some (Update name expected count)) rest = IsUnendedOfTwo expected co
 HasUnended (Some (Call name steps count)) rest = IsUnended count rest
 HasUnended asked rest = ⊥
 
--- a source of the script's next line is followed by another byte than a newline
+-- a source of the script's next line is followed by a byte other than a newline
 pub record EndsNoSource (dialect : Dialect) (before : List ℕ) : Type 0 where
   pub line : List ℕ
   pub rest : List ℕ
@@ -259,7 +256,7 @@ pub record EndsNoSource (dialect : Dialect) (before : List ℕ) : Type 0 where
 abbrev pub BeginsLong : (before : List ℕ) → Type 0
 BeginsLong before = (prefix : List ℕ) × (after : List ℕ) × (before ≡ prefix ++ after) × (length prefix ≡ 129) × All (λ byte. byte ≢ 10) prefix
 
--- the next line is refused by 50 before it is read to its end
+-- the next line is refused with 50 before it is read to its end
 abbrev pub BeginsBad : Dialect → (before : List ℕ) → Type 0
 BeginsBad dialect before = BeginsLong before ⊎ EndsNoSource dialect before
 
@@ -267,14 +264,14 @@ BeginsBad dialect before = BeginsLong before ⊎ EndsNoSource dialect before
 abbrev pub IsBegun : (IsBad : Type 0) → (old new : Talk) → Type 0
 IsBegun IsBad old new = (new ≡ old) ⊎ (IsBad × Writes (script_fault_text BadLine) old new)
 
--- Why 52: the script has more bytes than it may have; or, if there is a bound on its lines, more of it is left, and that many are
--- done, or the receipts that the client got for them hold more than 256 MiB.
+-- Why 52: the script has more bytes than it may have; or, if there is a bound on its lines, more of it is left, and that many
+-- lines are done, or the receipts that the client got for them hold more than 256 MiB.
 abbrev pub IsTooLong : (most : Option ℕ) (script : List ℕ) (first : MemberView) (lines : ℕ) (rest : List ℕ) (now : MemberView) → Type 0
 IsTooLong None script first lines rest now = 16777216 < length script
 IsTooLong (Some most) script first lines rest now = (16777216 < length script) ⊎ ((rest ≢ []) × ((lines ≡ most) ⊎ (268435456 < held_since first now)))
 
 -- A prefix of the script is done and nothing of what comes after it, except that 50 may be written for a line that was not read
--- to its end. `Stops` holds for the number of lines done, for what is left, and for the client then.
+-- to its end. `Stops` holds of the number of lines done, what is left, and the client at that point.
 pub record IsPlayedUpTo (mode : Mode) (dialect : Dialect) (most : Option ℕ) (script : List ℕ) (Stops : (lines : ℕ) (rest : List ℕ) (now : MemberView) → Type 0) (first last : Talk) : Type 0 where
   pub turns : List Turn
   pub few : IsWithin most (length turns)
@@ -284,28 +281,27 @@ pub record IsPlayedUpTo (mode : Mode) (dialect : Dialect) (most : Option ℕ) (s
   pub begun : IsBegun (BeginsBad dialect rest) between last
   pub stops : Stops (length turns) rest between.client
 
--- the next line may be begun, and the script ends within its source
+-- the next line may be begun, and the script ends within a source of that line
 abbrev pub IsCutIn : Dialect → (most : Option ℕ) (first : MemberView) (lines : ℕ) (rest : List ℕ) (now : MemberView) → Type 0
 IsCutIn dialect most first lines rest now = IsWithin most (lines + 1) × IsLight most first now × EndsInSource dialect rest
 
--- the unit of a `run` was fetched, its image is not at its end after some of the steps, and nothing was written of it
+-- the unit of a `run` was fetched, its image is not at its end after some of the steps, and nothing was written for it
 abbrev pub CutsRun : (name : List ℕ) (steps : ℕ) (old new : Talk) → Type 0
 CutsRun name steps old new = (receipt : Receipt) × GetAnswers name old.client new.client (Ok receipt) × IsCutRun steps receipt.entry.reply × (new.written ≡ old.written)
 
--- the same for a line that asks for it
+-- a line that asks for this is a `run` that was cut off
 abbrev pub CutsLine : Option ScriptRequest → (old new : Talk) → Type 0
 CutsLine (Some (Run name steps)) old new = CutsRun name steps old new
 CutsLine asked old new = ⊥
 
--- the same for the script's next line
+-- the script's next line is a `run` that was cut off
 pub record CutsNext (dialect : Dialect) (before : List ℕ) (old new : Talk) : Type 0 where
   pub line : List ℕ
   pub rest : List ℕ
   pub is_line : IsLine before line rest
   pub cut : CutsLine (asked_by_line dialect line) old new
 
--- A prefix of the script is done, all answers to it are written, and more of it is left. Nothing of that was done, or the next
--- line is a `run` that was cut.
+-- A prefix of the script is done and answered, and more is left. Of that nothing was done, or the next line is a `run` that was cut off.
 pub record IsPlayedTill (mode : Mode) (dialect : Dialect) (most : Option ℕ) (script : List ℕ) (first last : Talk) : Type 0 where
   pub turns : List Turn
   pub few : IsWithin most (length turns)
@@ -320,14 +316,14 @@ abbrev pub IsBounded : (most : Option ℕ) → Type 0
 IsBounded None = ⊥
 IsBounded (Some most) = Unit {0}
 
--- the faults that end a script: 51 to 54; also 61 if it has a bound
+-- the faults that end a script: 51 to 54; also 61, if its lines are bounded
 abbrev pub IsEnding : (most : Option ℕ) → ScriptFault → Type 0
 IsEnding most BadLine = ⊥
 IsEnding most Stopped = IsBounded most
 IsEnding most fault = Unit {0}
 
--- How far a script was done that such a fault ended. Only its reader knows that it could not be read, 53, and only its writer
--- that an answer could not be written, 54. Only whoever is asked whether it is to end knows that it is, 61.
+-- How far a script was done if this fault ended it. The clause does not say whether 53, 54 or 61 is justified: only the reader
+-- knows whether it failed, only the writer whether it did, and only the spool whether the script was to end.
 abbrev pub IsStoppedBy : Mode → Dialect → (most : Option ℕ) → ScriptFault → (script : List ℕ) (first last : Talk) → Type 0
 IsStoppedBy mode dialect most BadLine script first last = ⊥
 IsStoppedBy mode dialect most EndOfScript script first last = IsPlayedUpTo mode dialect most script (IsCutIn dialect most first.client) first last
@@ -336,22 +332,22 @@ IsStoppedBy mode dialect most ReadFault script first last = IsPlayedUpTo mode di
 IsStoppedBy mode dialect most WriteFault script first last = IsPlayedInPart mode dialect most script first last
 IsStoppedBy mode dialect most Stopped script first last = IsPlayedTill mode dialect most script first last
 
--- the same, and then the fault's line was written; 54 has none
+-- the script was done as far as the fault says, and then the fault's line was written; 54 has no line
 abbrev pub IsEndedBy : Mode → Dialect → (most : Option ℕ) → ScriptFault → (script : List ℕ) (first last : Talk) → Type 0
 IsEndedBy mode dialect most fault script first last =
     (between : Talk) × IsStoppedBy mode dialect most fault script first between × Writes (script_fault_text fault) between last
 
 -- ---- any script, and those whose bytes are known to their readers
 
--- the client is the same, and its receipts are those from before and then others
+-- the client is the same, and its receipts are the earlier ones and then perhaps others
 abbrev pub Grows : (old new : MemberView) → Type 0
 Grows old new = (new.number ≡ old.number) × ((more : List Receipt) × (new.receipts ≡ old.receipts ++ more))
 
--- a fault that ends scripts ended it, and it is done up to the point that the fault says
+-- a fault that ends scripts ended the script, which is done up to the point that the fault says
 abbrev pub IsStopped : Mode → Dialect → (most : Option ℕ) (script : Option (List ℕ)) (old new : Talk) → ScriptFault → Type 0
 IsStopped mode dialect most script old new fault = IsEnding most fault × IfSome script (λ bytes. IsEndedBy mode dialect most fault bytes old new)
 
--- it is done whole; or a fault ended it, and it is done up to the point that the fault says
+-- the whole script is done; or a fault ended it, and it is done up to the point that the fault says
 abbrev pub IsPlayedBy : Mode → {T : Type 0} → Dialect → (most : Option ℕ) (script : Option (List ℕ)) (old new : Talk) → Result T ScriptFault → Type 0
 IsPlayedBy mode dialect most script old new (Ok done) = IfSome script (λ bytes. IsPlayed mode dialect most bytes old new)
 IsPlayedBy mode dialect most script old new (Err fault) = IsStopped mode dialect most script old new fault

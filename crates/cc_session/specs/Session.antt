@@ -27,8 +27,8 @@ IsUnopened honest seen before after (Fault number) =
     (base : Units) × (fault : ServiceFault) × (number ≡ fault_number fault) × IsNotOpened honest seen base before after fault
 
 -- One client was made for the script. It began with no receipt, while the writer held `before`. If the bytes of the script's
--- reader are known, the client and what the writer holds afterwards are what the script makes of them. If the session ends as its
--- script did, the writer gets nothing more.
+-- reader are known, `Plays` relates the client and the writer before and after the script. If the session ends as its script did,
+-- the writer gets nothing more.
 pub record HasCalled (script before after : Option (List ℕ)) (played end : SessionEnd) (clients : List MemberView) (Plays : List ℕ → Talk → Talk → Type 0) : Type 0 where
   pub first : Talk
   pub last : Talk
@@ -38,8 +38,8 @@ pub record HasCalled (script before after : Option (List ℕ)) (played end : Ses
   pub alone : clients ≡ last.client ∷ []
   pub written : end ≡ played → after ≡ last.written
 
--- How a session's script, which is of the plain dialect, ended in a mode, and what it made of the clients and of what the writer
--- held before. The script was done; or the service has no client for it, 30; or one of 51 to 54 ended it.
+-- How a session's script, in the plain dialect and a mode, ended, and how it changed the clients and the contents of the writer.
+-- The script was done; or the service has no client for it, 30; or one of 51 to 54 ended it.
 abbrev pub HaveCalled : Mode → (script before after : Option (List ℕ)) (end : SessionEnd) (clients : List MemberView) → (played : SessionEnd) → Type 0
 HaveCalled mode script before after end clients Finished = HasCalled script before after Finished end clients (IsPlayed mode Plain None)
 HaveCalled mode script before after end clients (Fault number) =
@@ -49,10 +49,10 @@ HaveCalled mode script before after end clients (Fault number) =
 -- What is left of a service that was opened: its library, with the history of its calls, which begins at the map to which the
 -- bytes recover. Its clients have receipts of their own calls, in order, and `Holds` is true of the history and the clients.
 -- Whatever a crash then leaves of the disk recovers to that library's map, or to that map without or with the change in which the
--- device failed. So it holds each change that was acknowledged, in order. Whatever a crash left since this moment was already
--- left before the opening, or it recovers to the first map with the changes of the first calls, or with the failed change too.
--- Each unit in it was there before or agrees with its source. This many calls of the device had failed at the opening: if none
--- has failed since, no change has failed, and whatever a crash leaves recovers to that map and no other.
+-- device failed. So it holds each change that was acknowledged, in order. What a crash left at any moment since `from` is what it
+-- could have left before the opening, or it recovers to the first map with the changes of the first calls, and perhaps the failed
+-- change. Each unit in the map was there before or agrees with its source. `failures` calls of the device had failed at the
+-- opening: if none has failed since, no change has failed, and whatever a crash leaves recovers to the library's map.
 pub record IsLeft {Disk : Type 0} (D : Ghosts Disk) (failures : ℕ) (bytes : List ℕ) (from : ℕ) (left : List ℕ → Type 0)
     (Holds : (history : List Entry) (clients : List MemberView) → Type 0) (clients : List MemberView) (after : Disk) : Type 0 where
   pub base : Units
@@ -66,14 +66,14 @@ pub record IsLeft {Disk : Type 0} (D : Ghosts Disk) (failures : ℕ) (bytes : Li
 
 -- The service of these clients was ended, or given up because it had no memory to end; `played` is how their work (a session's
 -- script) ended. All their receipts are in the history, and it has no other entries. The end is how the work ended; or 40, if the
--- work was done and there was no memory. Or it was given up because a receipt is not in the history, or the history has more
--- entries, or two clients have the same number. Then the end is 39, however the work ended, and no other end means this.
+-- work was done and there was no memory. Or the service was given up because a receipt is not in the history, or the history has
+-- more entries, or two clients have the same number. Then the end is 39, however the work ended, and no other end means this.
 abbrev pub IsEnded : {Disk : Type 0} (D : Ghosts Disk) (failures : ℕ) (bytes : List ℕ) (from : ℕ) (left : List ℕ → Type 0) (clients : List MemberView) (played end : SessionEnd) (after : Disk) → Type 0
 IsEnded D failures bytes from left clients played end after =
     (((end ≡ played) ⊎ ((played ≡ Finished) × (end ≡ Fault 40))) × IsLeft D failures bytes from left IsClosed clients after)
     ⊎ ((end ≡ Fault 39) × IsLeft D failures bytes from left IsNotWhole clients after)
 
--- the same for clients whose work is what `Worked` says, depending on how it ended
+-- the service of some clients was ended or given up; `Worked` says what they did, depending on how their work ended
 abbrev pub HasEnded : {Disk : Type 0} (D : Ghosts Disk) (failures : ℕ) (bytes : List ℕ) (from : ℕ) (left : List ℕ → Type 0)
     (Worked : (clients : List MemberView) (played : SessionEnd) → Type 0) → SessionEnd → (after : Disk) → Type 0
 HasEnded D failures bytes from left Worked end after =
@@ -88,15 +88,14 @@ EndsSince D from left Untouched Worked before after end =
     (IsUnopened D.honest (D.seen before) (D.failures before) (D.failures after) end × (IsTrue D.honest → OnlyReads D.seen D.may_leave D.moment D.left_since before after) × Untouched)
     ⊎ HasEnded D (D.failures before) (D.seen before) from left Worked end after
 
--- the same for a service that began with this disk; a crash at any moment of it leaves what the end says, or what it may have
--- left at the beginning
+-- How a service that began with this disk ends: `EndsSince` since the beginning, with what a crash may have left then.
 abbrev pub ServiceEnds : {Disk : Type 0} (D : Ghosts Disk) (Untouched : Type 0) (Worked : (clients : List MemberView) (played : SessionEnd) → Type 0)
     (before after : Disk) → SessionEnd → Type 0
 ServiceEnds D Untouched Worked before after end =
     EndsSince D (D.moment before) (D.may_leave before) Untouched Worked before after end
 
--- How a session ends if it began with this disk and a writer that held `written_before`: like a service whose one client does the
--- script. The disk is always handed back.
+-- How a session ends if it began with this disk and a writer that held `written_before`: like a service whose only client runs
+-- the script. The disk is always handed back.
 abbrev pub SessionEnds : Mode → {Disk : Type 0} (D : Ghosts Disk) (script written_before written_after : Option (List ℕ)) (before : Disk) → Option Disk → SessionEnd → Type 0
 SessionEnds mode D script written_before written_after before None end = ⊥
 SessionEnds mode D script written_before written_after before (Some after) end =

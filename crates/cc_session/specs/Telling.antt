@@ -1,4 +1,4 @@
--- What is written of what a service answered, byte for byte.
+-- How an answer of a service is written, byte for byte.
 use Rattle.std.specs.Prelude.{◌≡◌, ◌⊎◌, ◌<◌, ℕ, Bool, true, false, List, [], Result, Ok, Err, codes}
 use Rattle.cc_link.specs.Text.{text_fault_place}
 use Rattle.cc_link.specs.declared.audit_answer.Audit.{Audit}
@@ -24,7 +24,7 @@ use Rattle.cc_session.specs.Showing.{IsShownOf}
 
 -- ---- refusals
 
--- the place of a fault in the source that was sent, or the function that has it
+-- the place of a fault in the source that was sent, or the function that has the fault
 abbrev pub where_text : (source : List ℕ) → ServiceFault → List ℕ
 where_text source (service.Text f) = place_text (text_fault_place f)
 where_text source (service.Piece function f) = function_text source f
@@ -34,7 +34,7 @@ where_text source fault = []
 abbrev pub refusal_text : (source : List ℕ) → ServiceFault → List ℕ
 refusal_text source fault = fault_line (fault_number fault) (where_text source fault)
 
--- the line for 40: the service answered, but there was no memory for the rest
+-- the line for 40: the service answered, but there was no memory for what follows
 abbrev pub no_memory_text : List ℕ
 no_memory_text = fault_line 40 []
 
@@ -53,7 +53,7 @@ abbrev pub done_text : {T : Type 0} → Result T ServiceFault → List ℕ
 done_text (Ok done) = line (codes "ok")
 done_text (Err fault) = refusal_text [] fault
 
--- for the question how much of its area the library takes
+-- for `space`, how much of its area the library takes: the figures, or the refusal
 abbrev pub room_text : Result SpaceUse ServiceFault → List ℕ
 room_text (Ok space) = space_text space
 room_text (Err fault) = refusal_text [] fault
@@ -75,7 +75,7 @@ pub record IsRunText (words : List ℕ) (steps : ℕ) (reply : Reply) (text : Li
 abbrev pub IsCutOff : Image → (steps : ℕ) → Type 0
 IsCutOff image steps = (done : ℕ) × (done < steps) × ((machine_behavior image [] done).outcome ≡ Going)
 
--- the same for the image of the reply's unit
+-- after some of the steps, fewer than `steps`, the image of the reply's unit is not at its end
 pub record IsCutRun (steps : ℕ) (reply : Reply) : Type 0 where
   pub unit : StoredUnit
   pub found : reply ≡ Unit unit
@@ -86,7 +86,7 @@ abbrev pub SaysRunOn : (words : List ℕ) (steps : ℕ) → Result Receipt Servi
 SaysRunOn words steps (Ok receipt) text = IsRunText words steps receipt.entry.reply text ⊎ (text ≡ no_memory_text)
 SaysRunOn words steps (Err fault) text = text ≡ refusal_text [] fault
 
--- for a run on no input
+-- for a run without input
 abbrev pub SaysRun : (steps : ℕ) → Result Receipt ServiceFault → (text : List ℕ) → Type 0
 SaysRun steps = SaysRunOn [] steps
 
@@ -95,7 +95,7 @@ abbrev pub SaysShown : Part → Result Receipt ServiceFault → (text : List ℕ
 SaysShown part (Ok receipt) text = IsShownOf part receipt.entry.reply text ⊎ (text ≡ no_memory_text)
 SaysShown part (Err fault) text = text ≡ refusal_text [] fault
 
--- what an audit in a mode says of the reply's unit
+-- the line that an audit in a mode writes about the reply's unit
 pub record IsAuditText (mode : Mode) (name : List ℕ) (reply : Reply) (text : List ℕ) : Type 0 where
   pub audit : Audit
   pub said : IsSaidOf mode reply audit
@@ -108,7 +108,7 @@ SaysAudit mode name true (Err fault) text = ⊥
 SaysAudit mode name false (Ok receipt) text = text ≡ no_memory_text
 SaysAudit mode name false (Err fault) text = text ≡ refusal_text [] fault
 
--- for a call that was refused
+-- for a call that was refused: the line for the refusal
 abbrev pub SaysRefusal : Result Receipt ServiceFault → (text : List ℕ) → Type 0
 SaysRefusal (Ok receipt) text = ⊥
 SaysRefusal (Err fault) text = text ≡ refusal_text [] fault

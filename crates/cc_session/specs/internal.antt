@@ -1,8 +1,8 @@
--- What only private contracts use. First: what a command does and writes.
+-- what a command does and writes
 pub mod Calls
 -- how far a script has been done
 pub mod Steps
--- how a script from a spool ended, and how a service ends that was given up
+-- how a script from a spool ended, and how a service that was given up ends
 pub mod Ends
 -- when a generation ends
 pub mod Enough

@@ -1,4 +1,4 @@
-// A script done by a client of a service, and the scripts of a spool, done so one after another.
+// How a client of a service runs a script, or the scripts of a spool one after another.
 
 ghost use Rattle.std.specs.Prelude.{◌≡◌, ◌++◌, ◌∷◌, []};
 ghost use Rattle.cc_c_semantics.specs.declared.mode.Mode.TheVariants.{Plain};
@@ -20,20 +20,20 @@ use std::alloc::Global;
 use std::io::{self, Read, Write};
 use std::sync::Wait;
 
-// At most this many lines of a script from a spool are done. So a script that asks only for errors holds its client for a bounded
-// time.
+// At most this many lines of a script from a spool are done. So even a script whose lines are all refused occupies its client for
+// a bounded time.
 const MOST_LINES: usize = 65_536;
 
 /// Does what a script asks for, in a mode, with a client of a service, up to the script's end or a fault that ends it, 51 to 54.
 /// The line of that fault is then written. If that line can't be written the fault is 54, which has no line. Clients on other
-/// threads may play theirs on the same service.
+/// threads may run their scripts on the same service.
 ///
 /// The script comes from `reader`; each answer goes to `writer`, which is flushed after it: at the end it holds the lines of the
-/// script's turns in their order, and no other byte. What helps a person with a fault goes to `explanations`; if such a write
-/// fails the script goes on. `dialect` says which lines it may have. If there is a bound on its lines, `most`, at most that many
-/// are done, and 52 ends a script that has more: at 0 every script that has a byte. A line and the source after it count as one
-/// line, whatever is answered. 52 also ends such a script after the line that brings the client's receipts for it above 256 MiB
-/// (`held_since` of `Client`), if the script goes on after that.
+/// script's turns, in order, and no other byte. Explanations of faults for a person go to `explanations`; if such a write fails
+/// the script goes on. `dialect` says which lines the script may have. If there is a bound on its lines, `most`, at most that
+/// many are done, and 52 ends a script that has more (if the bound is 0, every script that has a byte). A line and the source
+/// after it count as one line, whatever is answered. 52 also ends such a script after the line that brings the client's receipts
+/// for it above 256 MiB (`held_since` of `Client`), if the script goes on after that.
 pub fn play_in<N, H, R: Read, W: Write, E: Write, D>(
     rt: &H,
     alloc: Global,
@@ -71,7 +71,7 @@ where
     tell_halt(halted, writer, explanations)
 }
 
-/// The same in the plain mode: `play_in`.
+/// `play_in` in the plain mode.
 pub fn play<N, H, R: Read, W: Write, E: Write, D>(
     rt: &H,
     alloc: Global,
@@ -122,16 +122,16 @@ fn is_closing<S: Spool>(spool: &mut S, meter: &Meter) -> bool
     spool.is_over() || meter.is_full()
 }
 
-/// Does the scripts of a spool in a mode one after another, with one client of a service, until the spool says that no more is to
-/// be taken, or the meter that all clients of the service share is full. At most 65,536 lines of each script are done, and none
-/// after those whose receipts hold more than 256 MiB; if a script has more, its answer ends with the line for 52.
+/// Does the scripts of a spool in a mode one after another, with one client of a service, until the spool says that no more are
+/// to be taken, or the meter that all clients of the service share is full. At most 65,536 lines of each script are done, and
+/// none after those whose receipts hold more than 256 MiB; if a script has more, its answer ends with the line for 52.
 ///
-/// A script that has been at work for long ends with 61 after the line at work, or within a `run`, if it has more, and if others
-/// wait (`is_long`, `is_awaited`) or the meter is full.
+/// A script that has run for long and is not at its end ends with 61 after its current line, or within a `run`, if others wait
+/// (`is_long`, `is_awaited`) or the meter is full.
 ///
 /// A fault that ends a script, 51 to 54 or 61, ends only that script: its answer is handed over with the fault's number, and the
-/// next is taken. The line of the fault is the answer's last, but 54 has no line: what becomes of an answer that can't be written
-/// is the spool's matter.
+/// next is taken. The line of the fault is the answer's last, but 54 has no line: the spool decides what becomes of an answer
+/// that can't be written.
 pub fn attend_in<N, H, S, D>(
     rt: &H,
     alloc: Global,
@@ -186,7 +186,7 @@ where
     }
 }
 
-/// The same in the plain mode: `attend_in`.
+/// `attend_in` in the plain mode.
 pub fn attend<N, H, S, D>(
     rt: &H,
     alloc: Global,

@@ -9,7 +9,8 @@ use cc_service::Found;
 use std::alloc::{AllocError, Global};
 use std::io::{self, Write};
 
-/// The result of an audit: the answer; and, if the unit's certificate does not show it, the first part of the unit that fails.
+/// The result of an audit: the answer; and, if the unit's certificate does not confirm the unit, the first part of it that
+/// fails.
 #[derive(Drop)]
 pub(crate) struct Audited {
     pub(crate) audit: Audit,
@@ -84,7 +85,7 @@ fn write_failed<E: Write>(
     explanations.flush()
 }
 
-/// Writes which part of the unit under a name fails, if an audit found one. If it can't be written it is left out.
+/// Writes which part of the unit under a name fails, if an audit found one. If this can't be written, it is left out.
 pub(crate) fn explain_audit<E: Write>(
     name: &[u8],
     found: &Found,

@@ -1,10 +1,10 @@
 // How much the clients of one service do before it ends, so that what its history holds in memory stays bounded.
 //
-// A service keeps its history, with every unit that a change handed in, until its end. So whoever serves for months ends it and
-// opens the next one on the same disk: a generation. The clients share a meter. Each client asks it before it takes a script,
-// reports to it when it has taken one, and adds what its new receipts hold when the answer is handed over. Bytes are added before
-// the script counts as done, so a client that sees no script being done sees the bytes of all. Once a client has found the meter
-// full, it stays full for all.
+// A service keeps its history, with every unit that a change handed in, until its end. So a server that works for months ends the
+// service now and then and opens the next one on the same disk: each is a generation. The clients share a meter. Each client asks
+// the meter before it takes a script, reports when it has taken one, and adds what its new receipts hold when the answer is
+// handed over. Bytes are added before the script counts as done, so a client that sees no script being done sees the bytes of all
+// scripts. Once a client has found the meter full, it stays full for all.
 
 ghost use Rattle.std.specs.Prelude.{◌↔◌, IsTrue};
 ghost use Rattle.cc_session.specs.internal.Enough.{IsEnough};
@@ -13,12 +13,12 @@ use crate::end::SessionEnd;
 use crate::steward::{Generation, GenerationEnd};
 use std::sync::atomic::{AtomicBool, AtomicU64, Ordering};
 
-/// When a generation ends: depending on the bytes that its history is counted to hold (`held_since` of `cc_service::Client`: 256
-/// for each call; for a change also the source, code, globals and certificate of its unit; for a list also 48 for each name), or
-/// on the number of scripts that were taken.
+/// The bounds at which a generation ends: on the bytes that its history is counted to hold (`held_since` of `cc_service::Client`:
+/// 256 for each call; for a change also the source, code, globals and certificate of its unit; for a list also 48 for each name),
+/// or on the number of scripts that were taken.
 ///
 /// At least one script is done in each generation, whatever these numbers are.
-#[derive(Clone, Copy, Debug, Drop, PartialEq, Eq)]
+#[derive(Clone, Copy, Drop)]
 pub struct Bounds {
     /// If the history holds this many bytes, the generation ends at the first moment at which no script is being done.
     pub ends: u64,
@@ -54,8 +54,8 @@ fn is_enough(bounds: Bounds, counts: Counts) -> bool
             || bounds.scripts <= counts.scripts)
 }
 
-/// What the clients of a generation have done so far. All of them share it. `attend` asks it and reports to it; so may whoever
-/// does scripts with `play`.
+/// What the clients of a generation have done so far. All of them share it. `attend` asks the meter and reports to it; a caller
+/// of `play` may do so too.
 #[derive(Drop)]
 pub struct Meter {
     bounds: Bounds,
@@ -66,7 +66,7 @@ pub struct Meter {
     full: AtomicBool,
 }
 
-// Adds to a count, which stops at its largest value.
+// Adds to a count, which saturates at its largest value.
 fn add(count: &AtomicU64, more: u64) {
     let _ = count.fetch_update(Ordering::SeqCst, Ordering::SeqCst, |n| {
         Some(n.saturating_add(more))
@@ -74,7 +74,7 @@ fn add(count: &AtomicU64, more: u64) {
 }
 
 impl Meter {
-    /// The meter of a generation in which nothing was done.
+    /// The meter of a generation in which nothing has been done yet.
     pub fn new(bounds: Bounds) -> Meter {
         Meter {
             bounds,
@@ -86,7 +86,7 @@ impl Meter {
         }
     }
 
-    // The bytes are read first: they only grow, so if no script is being done then, they were all there.
+    // The bytes are read first: they only grow, so if no script is being done after that, the bytes of all scripts were added.
     fn counts(&self) -> Counts {
         let bytes = self.bytes.load(Ordering::SeqCst);
         let scripts = self.scripts.load(Ordering::SeqCst);
@@ -98,8 +98,8 @@ impl Meter {
         }
     }
 
-    /// Whether no client is to take a further script. Once this is so, it stays so. Clients that were waiting for a script at
-    /// that moment may take one more each.
+    /// Whether no client is to take a further script. Once true, this stays true. Clients that were waiting for a script at that
+    /// moment may take one more each.
     pub fn is_full(&self) -> bool {
         if self.full.load(Ordering::SeqCst) {
             return true;

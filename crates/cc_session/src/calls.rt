@@ -1,6 +1,6 @@
-// The commands of a script, done by one client.
+// How a client does the commands of a script.
 
-ghost use Rattle.std.specs.Prelude.{◌≡◌, ◌⊎◌, true, [], List, ℕ, Option, Ok, Err, IfOk, IfSome};
+ghost use Rattle.std.specs.Prelude.{◌≡◌, ◌⊎◌, true, [], List, ℕ, Option, Ok, Err, IfSome};
 ghost use Rattle.std.specs.Option.{option_map};
 ghost use Rattle.cc_answers.specs.Telling.{Tells};
 ghost use Rattle.cc_script.specs.Line.{asked_of};
@@ -33,7 +33,7 @@ use cc_runs::words_in;
 use cc_script::{
     Dialect, LINE_BYTES, NextLine, SCRIPT_BYTES, ScriptCommand, ScriptFault, command_of,
 };
-use cc_service::{Client, Found, Named, Prepared, Put, Service, ServiceFault};
+use cc_service::{Client, Found, Named, Put, Service, ServiceFault};
 use cc_task::Part;
 use std::alloc::Global;
 use std::io::{Read, Write};
@@ -55,44 +55,7 @@ pub(crate) struct Player<'a, N: Named, H, D: Disk, P> {
 }
 
 impl<'a, N: Named + Send + Sync + 'static, H: Wait, D: Disk, P: Patience> Player<'a, N, H, D, P> {
-    // The text of a source that is read up to here, as it was handed to the workers before its turn, or is now.
-    fn begun<R: Read>(
-        &self,
-        client: &mut Client<N>,
-        script: &Reading<R>,
-        hints: &mut Hints<N>,
-        source: &[u8],
-    ) -> Result<Prepared<N>, ServiceFault>
-        ensures text { IfOk result (λ prepared. prepared.text ≡ source.now) }
-        ensures mode { IfOk result (λ prepared. prepared.mode ≡ self.now.mode) }
-        ensures member { client.new.member ≡ client.old.member }
-    {
-        match hints.take(self.mode, script.position(), source) {
-            Some(prepared) => Ok(prepared),
-            None => self
-                .service
-                .prepare_in(self.rt, self.alloc, client, self.mode, source),
-        }
-    }
-
-    // Hands the sources of the next commands to the workers, unless some client waits for them.
-    fn look_ahead<R: Read>(&self, client: &mut Client<N>, script: &Reading<R>, hints: &mut Hints<N>)
-        ensures { client.new.member ≡ client.old.member }
-    {
-        if !self.service.is_busy() {
-            hints.look_ahead(
-                self.rt,
-                self.alloc,
-                self.service,
-                client,
-                self.mode,
-                script.position(),
-                script.held(),
-            );
-        }
-    }
-
-    // Puts a unit of this source, whatever was handed in before.
+    // Puts a unit compiled from this source, regardless of what was handed in before.
     fn put_anew<W: Write, E: Write>(
         &self,
         client: &mut Client<N>,
@@ -111,7 +74,8 @@ impl<'a, N: Named + Send + Sync + 'static, H: Wait, D: Disk, P: Patience> Player
         tell_change(self.alloc, answer, source, answers, explanations)
     }
 
-    // Writes the answer of a unit that was put. If memory was refused, or a worker is gone, no hint stays, and it is put once more.
+    // Writes the answer for a unit that was put. If memory was refused, or a worker is gone, all hints are dropped, and the unit
+    // is put once more.
     fn settle<W: Write, E: Write>(
         &self,
         answer: Result<Receipt, ServiceFault>,
@@ -135,7 +99,8 @@ impl<'a, N: Named + Send + Sync + 'static, H: Wait, D: Disk, P: Patience> Player
         tell_change(self.alloc, answer, source, answers, explanations)
     }
 
-    // Adds or replaces a unit, whose source this is. While it waits for the workers they have the sources of the next commands too.
+    // Adds or replaces a unit with this source. While the client waits for the workers, they also have the sources of the next
+    // commands.
     fn change<R: Read, W: Write, E: Write>(
         &self,
         client: &mut Client<N>,
@@ -151,9 +116,10 @@ impl<'a, N: Named + Send + Sync + 'static, H: Wait, D: Disk, P: Patience> Player
             (talk client.old.member (W.contents answers.old)) (talk client.new.member (W.contents answers.new)) result }
     {
         let (rt, alloc, service) = (self.rt, self.alloc, self.service);
-        match self.begun(client, script, hints, source) {
+        let at = script.position();
+        match hints.begun(rt, alloc, service, client, self.mode, at, source) {
             Ok(prepared) => {
-                self.look_ahead(client, script, hints);
+                hints.look_ahead(rt, alloc, service, client, self.mode, at, script.held());
                 let answer = service.put_prepared(rt, alloc, client, put, name, prepared);
                 self.settle(
                     answer,
@@ -228,7 +194,8 @@ impl<'a, N: Named + Send + Sync + 'static, H: Wait, D: Disk, P: Patience> Player
         tell_change(self.alloc, answer, source, answers, explanations)
     }
 
-    // The same with the source that comes next, unless there was no room for the expected one.
+    // Replaces the unit under a name with one compiled from the source that comes next, unless there was no room for the expected
+    // source.
     fn update_from<R: Read, W: Write, E: Write>(
         &self,
         client: &mut Client<N>,
@@ -261,7 +228,7 @@ impl<'a, N: Named + Send + Sync + 'static, H: Wait, D: Disk, P: Patience> Player
         }
     }
 
-    // Replaces the unit under a name, if its source is the one that comes next; the new unit's source comes after that.
+    // Replaces the unit under a name, if the source that comes next is its source. The new unit's source comes after that one.
     fn update<R: Read, W: Write, E: Write>(
         &self,
         client: &mut Client<N>,
@@ -333,24 +300,6 @@ impl<'a, N: Named + Send + Sync + 'static, H: Wait, D: Disk, P: Patience> Player
         }
     }
 
-    // Runs the image of a unit that was found, or begins to.
-    fn run_found<W: Write, E: Write>(
-        &self,
-        found: Found,
-        steps: u64,
-        answers: &mut W,
-        explanations: &mut E,
-    ) -> Result<(), ScriptFault>
-        ensures { TellsRun self.now.most steps found (W.contents answers.old) (W.contents answers.new) result }
-    {
-        let image = &found.unit().stored().image;
-        match run_in_slices(self.alloc, image, steps, self.most.is_some(), self.patience) {
-            Ok(Some(run)) => tell_run(&run, answers),
-            Ok(None) => Err(ScriptFault::Stopped),
-            Err(_) => tell_no_memory(answers, explanations),
-        }
-    }
-
     // Runs the image of the unit under a name.
     fn run<W: Write, E: Write>(
         &self,
@@ -363,26 +312,16 @@ impl<'a, N: Named + Send + Sync + 'static, H: Wait, D: Disk, P: Patience> Player
         ensures { RunsAndTells self.now.most name.now steps (talk client.old.member (W.contents answers.old)) (talk client.new.member (W.contents answers.new)) result }
     {
         match self.service.get(self.rt, self.alloc, client, name) {
-            Ok(found) => self.run_found(found, steps, answers, explanations),
+            Ok(found) => run_found(
+                self.alloc,
+                self.patience,
+                self.most,
+                found,
+                steps,
+                answers,
+                explanations,
+            ),
             Err(fault) => refuse(self.alloc, fault, &[], answers, explanations),
-        }
-    }
-
-    // Runs the image of a unit that was found on input words.
-    fn call_found<W: Write, E: Write>(
-        &self,
-        found: Found,
-        steps: u64,
-        words: &[u32],
-        answers: &mut W,
-        explanations: &mut E,
-    ) -> Result<(), ScriptFault>
-        ensures { (text : List ℕ) × SaysRunOn words.now steps (Ok found) text × Tells (W.contents answers.old) (W.contents answers.new) text result }
-    {
-        let image = &found.unit().stored().image;
-        match run_image(self.alloc, image, words, steps) {
-            Ok(run) => tell_run(&run, answers),
-            Err(_) => tell_no_memory(answers, explanations),
         }
     }
 
@@ -399,12 +338,12 @@ impl<'a, N: Named + Send + Sync + 'static, H: Wait, D: Disk, P: Patience> Player
         ensures { CallsAndTells (GetAnswers name.now) (SaysRunOn words.now steps) (talk client.old.member (W.contents answers.old)) (talk client.new.member (W.contents answers.new)) result }
     {
         match self.service.get(self.rt, self.alloc, client, name) {
-            Ok(found) => self.call_found(found, steps, words, answers, explanations),
+            Ok(found) => call_found(self.alloc, found, steps, words, answers, explanations),
             Err(fault) => refuse(self.alloc, fault, &[], answers, explanations),
         }
     }
 
-    // Runs the image of the unit under a name on the input words in these bytes.
+    // Runs, on the input words in these bytes, the image of the unit under a name.
     fn call_on<W: Write, E: Write>(
         &self,
         client: &mut Client<N>,
@@ -434,7 +373,7 @@ impl<'a, N: Named + Send + Sync + 'static, H: Wait, D: Disk, P: Patience> Player
         }
     }
 
-    // Runs the image of the unit under a name on the input words that come next.
+    // Runs, on the input words that come next, the image of the unit under a name.
     fn call<R: Read, W: Write, E: Write>(
         &self,
         client: &mut Client<N>,
@@ -475,28 +414,12 @@ impl<'a, N: Named + Send + Sync + 'static, H: Wait, D: Disk, P: Patience> Player
         ensures { CallsAndTells (GetAnswers name.now) (SaysShown part) (talk client.old.member (W.contents answers.old)) (talk client.new.member (W.contents answers.new)) result }
     {
         match self.service.get(self.rt, self.alloc, client, name) {
-            Ok(found) => self.show_found(found, part, answers, explanations),
+            Ok(found) => show_found(self.alloc, found, part, answers, explanations),
             Err(fault) => refuse(self.alloc, fault, &[], answers, explanations),
         }
     }
 
-    // Writes this part of a unit that was found.
-    fn show_found<W: Write, E: Write>(
-        &self,
-        found: Found,
-        part: Part,
-        answers: &mut W,
-        explanations: &mut E,
-    ) -> Result<(), ScriptFault>
-        ensures { (text : List ℕ) × SaysShown part (Ok found) text × Tells (W.contents answers.old) (W.contents answers.new) text result }
-    {
-        match text_of(self.alloc, &found, part) {
-            Ok(text) => tell_text(text.as_slice(), answers),
-            Err(_) => tell_no_memory(answers, explanations),
-        }
-    }
-
-    // Compacts the library. This is no client's call.
+    // Compacts the library. This is not a call of a client.
     fn compact<W: Write, E: Write>(
         &self,
         answers: &mut W,
@@ -508,7 +431,7 @@ impl<'a, N: Named + Send + Sync + 'static, H: Wait, D: Disk, P: Patience> Player
         tell_done(self.alloc, answer, answers, explanations)
     }
 
-    // Writes how much of its area the library takes. This is no client's call.
+    // Writes how much of its area the library takes. This is not a call of a client.
     fn space<W: Write, E: Write>(
         &self,
         answers: &mut W,
@@ -518,32 +441,6 @@ impl<'a, N: Named + Send + Sync + 'static, H: Wait, D: Disk, P: Patience> Player
     {
         let answer = self.service.space(self.rt);
         tell_room(self.alloc, answer, answers, explanations)
-    }
-
-    // Writes what an audit says about a unit that was found, or that memory ran out during the audit. The result is whether the
-    // audit said anything.
-    fn audit_unit<W: Write, E: Write>(
-        &self,
-        name: &[u8],
-        found: Found,
-        answers: &mut W,
-        explanations: &mut E,
-    ) -> Result<bool, ScriptFault>
-        ensures { TellsAudit self.now.mode name.now (Ok found) (W.contents answers.old) (W.contents answers.new) result }
-    {
-        match audit_found(self.alloc, self.mode, &found) {
-            Ok(audited) => match tell_audit(name, audited.audit, answers) {
-                Ok(()) => {
-                    explain_audit(name, &found, &audited, explanations);
-                    Ok(true)
-                }
-                Err(fault) => Err(fault),
-            },
-            Err(_) => match tell_no_memory(answers, explanations) {
-                Ok(()) => Ok(false),
-                Err(fault) => Err(fault),
-            },
-        }
     }
 
     // Audits the unit under a name. The result is whether it was found and the audit said anything.
@@ -557,7 +454,7 @@ impl<'a, N: Named + Send + Sync + 'static, H: Wait, D: Disk, P: Patience> Player
         ensures { AuditsName self.now.mode name.now (talk client.old.member (W.contents answers.old)) (talk client.new.member (W.contents answers.new)) result }
     {
         match self.service.get(self.rt, self.alloc, client, name) {
-            Ok(found) => self.audit_unit(name, found, answers, explanations),
+            Ok(found) => audit_unit(self.alloc, self.mode, name, found, answers, explanations),
             Err(fault) => match refuse(self.alloc, fault, &[], answers, explanations) {
                 Ok(()) => Ok(false),
                 Err(fault) => Err(fault),
@@ -565,8 +462,8 @@ impl<'a, N: Named + Send + Sync + 'static, H: Wait, D: Disk, P: Patience> Player
         }
     }
 
-    // Audits the units under these names, up to the first that is not found or whose audit says nothing. The result is whether
-    // there was no such unit.
+    // Audits the units under these names, up to the first that is not found or whose audit says nothing. The result is whether all
+    // units were audited.
     fn audit_names<W: Write, E: Write>(
         &self,
         client: &mut Client<N>,
@@ -712,7 +609,8 @@ impl<'a, N: Named + Send + Sync + 'static, H: Wait, D: Disk, P: Patience> Player
         }
     }
 
-    // Does what a script of this dialect asks for, up to its end or a fault that ends it, whose line `tell_halt` writes.
+    // Does what a script of this dialect asks for, up to its end or a fault that ends it; `tell_halt` writes the line for that
+    // fault.
     pub(crate) fn play<R: Read, W: Write, E: Write>(
         &self,
         client: &mut Client<N>,
@@ -750,6 +648,87 @@ impl<'a, N: Named + Send + Sync + 'static, H: Wait, D: Disk, P: Patience> Player
     }
 }
 
+// Runs the image of a unit that was found, or begins to.
+fn run_found<P: Patience, W: Write, E: Write>(
+    alloc: Global,
+    patience: &P,
+    most: Option<usize>,
+    found: Found,
+    steps: u64,
+    answers: &mut W,
+    explanations: &mut E,
+) -> Result<(), ScriptFault>
+    ensures { TellsRun most steps found (W.contents answers.old) (W.contents answers.new) result }
+{
+    let image = &found.unit().stored().image;
+    match run_in_slices(alloc, image, steps, most.is_some(), patience) {
+        Ok(Some(run)) => tell_run(&run, answers),
+        Ok(None) => Err(ScriptFault::Stopped),
+        Err(_) => tell_no_memory(answers, explanations),
+    }
+}
+
+// Runs the image of a unit that was found on input words.
+fn call_found<W: Write, E: Write>(
+    alloc: Global,
+    found: Found,
+    steps: u64,
+    words: &[u32],
+    answers: &mut W,
+    explanations: &mut E,
+) -> Result<(), ScriptFault>
+    ensures { (text : List ℕ) × SaysRunOn words.now steps (Ok found) text × Tells (W.contents answers.old) (W.contents answers.new) text result }
+{
+    let image = &found.unit().stored().image;
+    match run_image(alloc, image, words, steps) {
+        Ok(run) => tell_run(&run, answers),
+        Err(_) => tell_no_memory(answers, explanations),
+    }
+}
+
+// Writes this part of a unit that was found.
+fn show_found<W: Write, E: Write>(
+    alloc: Global,
+    found: Found,
+    part: Part,
+    answers: &mut W,
+    explanations: &mut E,
+) -> Result<(), ScriptFault>
+    ensures { (text : List ℕ) × SaysShown part (Ok found) text × Tells (W.contents answers.old) (W.contents answers.new) text result }
+{
+    match text_of(alloc, &found, part) {
+        Ok(text) => tell_text(text.as_slice(), answers),
+        Err(_) => tell_no_memory(answers, explanations),
+    }
+}
+
+// Writes what an audit says about a unit that was found, or that memory ran out during the audit. The result is whether the
+// audit said anything.
+fn audit_unit<W: Write, E: Write>(
+    alloc: Global,
+    mode: Mode,
+    name: &[u8],
+    found: Found,
+    answers: &mut W,
+    explanations: &mut E,
+) -> Result<bool, ScriptFault>
+    ensures { TellsAudit mode name.now (Ok found) (W.contents answers.old) (W.contents answers.new) result }
+{
+    match audit_found(alloc, mode, &found) {
+        Ok(audited) => match tell_audit(name, audited.audit, answers) {
+            Ok(()) => {
+                explain_audit(name, &found, &audited, explanations);
+                Ok(true)
+            }
+            Err(fault) => Err(fault),
+        },
+        Err(_) => match tell_no_memory(answers, explanations) {
+            Ok(()) => Ok(false),
+            Err(fault) => Err(fault),
+        },
+    }
+}
+
 // Whether memory was refused, or a worker is gone.
 fn is_short(answer: &Result<Receipt, ServiceFault>) -> bool
     ensures { result ≡ true → (answer.now ≡ Err OutOfMemory) ⊎ (answer.now ≡ Err WorkersGone) }
@@ -761,7 +740,7 @@ fn is_short(answer: &Result<Receipt, ServiceFault>) -> bool
     }
 }
 
-// Writes the line of the fault that ended a script. If that cannot be written the fault is 54.
+// Writes the line of the fault that ended a script. If the line cannot be written, the fault is 54.
 fn tell_line<W: Write, E: Write>(
     fault: ScriptFault,
     answers: &mut W,
@@ -777,7 +756,7 @@ fn tell_line<W: Write, E: Write>(
     }
 }
 
-// Writes the line of the fault that ended a script, if one did: how the script ended.
+// Writes the line of the fault that ended a script, if one did. The result is how the script ended.
 pub(crate) fn tell_halt<W: Write, E: Write>(
     halted: Result<(), ScriptFault>,
     answers: &mut W,

@@ -1,4 +1,4 @@
-// Serving on and on: each generation is one service, and the next begins with the disk and the spools that it left.
+// Serving without end: each generation is one service, and the next begins with the disk and the spools that it left.
 
 ghost use Rattle.std.specs.Prelude.{◌≡◌, ◌≢◌, ◌≤◌, ℕ, All, zero, suc, true, false, map};
 ghost use Rattle.cc_c_semantics.specs.declared.mode.Mode.TheVariants.{Plain};
@@ -54,7 +54,7 @@ fn rest<H: Clock, S: Spool>(rt: &H, seconds: u64, spools: &mut [S]) -> bool
     are_over(spools)
 }
 
-// Whether the first generation ended in such a way that a next one may begin.
+// Whether the first generation ended in such a way that another may begin.
 fn is_well(end: SessionEnd) -> bool
     ensures well { result ≡ true → GoesOn zero end }
     ensures not { result ≡ false → end ≢ Finished }
@@ -65,7 +65,7 @@ fn is_well(end: SessionEnd) -> bool
     }
 }
 
-// Whether a later generation ended in such a way that a next one may begin: without a fault, or with one that may pass.
+// Whether a later generation ended in such a way that another may begin: without a fault, or with a fault that may pass.
 fn may_pass(end: SessionEnd) -> bool
     ensures passes { result ≡ true → GoesOn (suc zero) end }
     ensures not { result ≡ false → end ≢ Finished }
@@ -102,7 +102,7 @@ fn tell_pause<E: Write>(end: SessionEnd, pause: u64, explanations: &mut E) {
     }
 }
 
-// Whether a next generation is to begin: the last one ended without a fault or with one that may pass, and some spool is not
+// Whether another generation is to begin: the last one ended without a fault or with one that may pass, and some spool is not
 // over. After a fault there is a pause.
 fn goes_on<H: Clock, E: Write, D: Drop, S: Spool + Drop>(
     rt: &H,
@@ -126,13 +126,13 @@ fn goes_on<H: Clock, E: Write, D: Drop, S: Spool + Drop>(
 
 /// Serves as `serve_in` does, one generation after the other, until each spool is over or a service ends with a fault. A
 /// generation begins with the disk and the spools that the one before left; the numbers of its receipts begin at 1. Between two
-/// of them no script is taken, for as long as the service's end, the opening of the library and `steward` take.
+/// generations no script is taken, for as long as the service's end, the opening of the library and `steward` take.
 ///
-/// If a later generation ends with 40 or 41, which may pass, the next is tried after a pause: of a second at first, and then
-/// twice as long each time, up to a minute. The first of several faults in a row is explained on `explanations`. Serving ends
-/// with such a fault only if each spool is over then. Any fault of the first generation ends it.
+/// If a later generation ends with 40 or 41, which may pass, the next is tried after a pause: a second at first, then twice as
+/// long each time, up to a minute. The first of several faults in a row is explained to `explanations`. Serving ends with such
+/// a fault only if each spool is over by then. Any fault of the first generation ends it.
 ///
-/// What goes to `writer` and `explanations`, and what is handed back, is as with `serve_in`, for the last generation.
+/// What goes to `writer` and `explanations`, and what is handed back, is what `serve_in` says, for the last generation.
 pub fn serve_on_in<H, S, W, E, D, T>(
     rt: &H,
     alloc: Global,
@@ -156,9 +156,9 @@ where
     requires few { workers ≤ 8 }
     ensures generations { (earlier : ℕ) × ServesOn (ServingEnds mode D.Disk) earlier
         (map (given_by S.taken S.ended) spools.items) (map (given_by S.taken S.ended) result.spools.items) disk result.disk result.end }
-    // If no fault ended it, each spool has said that it is over.
+    // If no fault ended serving, each spool has said that it is over.
     ensures over { result.end ≡ Finished → All S.over result.spools.items }
-    // Nothing is written if no fault ended it.
+    // If no fault ended serving, nothing is written.
     ensures still { result.end ≡ Finished → W.contents writer.new ≡ W.contents writer.old }
 {
     let mut left = serve_quietly(
@@ -200,7 +200,7 @@ where
     unreachable!()
 }
 
-/// The same in the plain mode: `serve_on_in`.
+/// `serve_on_in` in the plain mode.
 pub fn serve_on<H, S, W, E, D, T>(
     rt: &H,
     alloc: Global,
@@ -223,9 +223,9 @@ where
     requires few { workers ≤ 8 }
     ensures generations { (earlier : ℕ) × ServesOn (ServingEnds Plain D.Disk) earlier
         (map (given_by S.taken S.ended) spools.items) (map (given_by S.taken S.ended) result.spools.items) disk result.disk result.end }
-    // If no fault ended it, each spool has said that it is over.
+    // If no fault ended serving, each spool has said that it is over.
     ensures over { result.end ≡ Finished → All S.over result.spools.items }
-    // Nothing is written if no fault ended it.
+    // If no fault ended serving, nothing is written.
     ensures still { result.end ≡ Finished → W.contents writer.new ≡ W.contents writer.old }
 {
     serve_on_in(

@@ -1,5 +1,5 @@
-// How far a script may go: the bound on its lines, and the bound on what the receipts that its client got for them hold. Both are
-// counted as the script goes on.
+// How far a script may go: the bound on its lines, and the bound on the bytes of the receipts that its client got for them. Both
+// are counted as the script goes on.
 
 ghost use Rattle.cc_history.specs.History.{MemberView};
 ghost use Rattle.cc_session.specs.Playing.{Grows};
@@ -9,11 +9,11 @@ use crate::patience::Patience;
 use cc_script::ScriptFault;
 use cc_service::{Client, Named};
 
-// A further line of a script with a bound begins only if these receipts hold at most this many bytes.
+// If a script has a bound, another line begins only if the script's receipts hold at most this many bytes.
 const MOST_HELD: u64 = 268_435_456;
 
-// What the receipts that a client got since a script was begun hold: how many receipts it had when they were last counted, and
-// the bytes of the new ones.
+// The bytes of the receipts that a client got since a script was begun, and how many receipts the client had when they were last
+// counted.
 #[derive(Drop)]
 pub(crate) struct Held {
     seen: usize,
@@ -21,7 +21,7 @@ pub(crate) struct Held {
 }
 
 impl Held {
-    // For a script that has not begun.
+    // The count for a script that has not begun.
     #[tactic(auto, using(crate::proofs::Weighing::counts_none))]
     pub(crate) fn new<N: Named>(client: &Client<N>) -> Held
         ensures { CountsSince client.now.member.receipts client.now.member.receipts result }
@@ -42,7 +42,7 @@ impl Held {
         self.seen = client.receipts().len();
     }
 
-    // The fault that ends a script after this many lines if more of it is left; none if a further line may be done.
+    // The fault that ends a script after this many lines if more of the script is left; none if another line may be done.
     #[tactic(auto, using(crate::proofs::Weighing::much, crate::proofs::Weighing::light))]
     pub(crate) fn limit<P: Patience>(
         &self,

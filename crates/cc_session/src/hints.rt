@@ -1,16 +1,16 @@
 // The sources of a script's next commands, handed to the workers before their turn.
 //
-// They are found in what the script's reader has already given. Nothing is read for that, so a script that somebody types line by
-// line is answered line by line. What was handed in is a hint: at its turn the source of a command is compared with it. A hint
-// that was refused, or whose memory or worker is gone, counts as no hint. So answers and their order are those of a script whose
-// sources are compiled one by one.
+// They are found in what the script's reader has already given. Nothing is read to find them, so a script that somebody types
+// line by line is answered line by line. A source that was handed in is a hint: at the command's turn, its source is compared
+// with the hint. A hint is ignored if it was refused, if memory ran out for it, or if its worker is gone. So the answers and
+// their order are the same as if the sources were compiled one by one.
 
-ghost use Rattle.std.specs.Prelude.{◌≡◌, IfSome};
+ghost use Rattle.std.specs.Prelude.{◌≡◌, IfOk, IfSome};
 
 use cc_disk::Disk;
 use cc_link::Mode;
 use cc_script::{Dialect, LINE_BYTES, ScriptCommand, command_of};
-use cc_service::{Client, Named, Prepared, Service};
+use cc_service::{Client, Named, Prepared, Service, ServiceFault};
 use std::alloc::Global;
 use std::collections::VecDeque;
 use std::sync::Wait;
@@ -36,7 +36,7 @@ pub(crate) struct Hints<N: Named> {
     looked: usize,
 }
 
-// The line that begins at a byte, without its newline; none if it is not yet there as a whole, or is too long.
+// The line that begins at a byte, without its newline; none if the whole line is not there yet, or is too long.
 fn line_at(held: &[u8], begin: usize) -> Option<&[u8]> {
     let rest = held.get(begin..).unwrap_or(b"");
     let few = rest.get(..=LINE_BYTES).unwrap_or(rest);
@@ -46,7 +46,7 @@ fn line_at(held: &[u8], begin: usize) -> Option<&[u8]> {
     }
 }
 
-// The place of the next source that is there as a whole, with the newline after it: its beginning and its end.
+// The beginning and the end of the next source that is there as a whole, with the newline after it.
 fn next_source(held: &[u8], from: usize) -> Option<(usize, usize)> {
     let mut begin = from;
     for _ in 0..held.len() {
@@ -99,7 +99,7 @@ impl<N: Named + Send + Sync + 'static> Hints<N> {
         self.hints.clear();
     }
 
-    // Whether no more are to be handed in.
+    // Whether no more sources are to be handed in.
     fn is_full(&self) -> bool {
         let mut functions = 0usize;
         for hint in self.hints.iter() {
@@ -108,7 +108,7 @@ impl<N: Named + Send + Sync + 'static> Hints<N> {
         MOST_SOURCES <= self.hints.len() || ENOUGH_FUNCTIONS <= functions
     }
 
-    // What was handed in for a source that was read up to here, if it is this source. What was handed in for earlier commands is
+    // The hint for the source that was read up to here, if it is a hint for this source. The hints for earlier commands are
     // dropped.
     pub(crate) fn take(&mut self, mode: Mode, at: usize, source: &[u8]) -> Option<Prepared<N>>
         ensures text { IfSome result (λ prepared. prepared.text ≡ source.now) }
@@ -130,8 +130,29 @@ impl<N: Named + Send + Sync + 'static> Hints<N> {
         None
     }
 
-    // Hands the sources of the next commands to the workers, for a script that was read up to here. `held` is the part of the
-    // rest that has been read already.
+    // A text that the workers have, for a source that was read up to here: as it was handed in before its turn, or is now.
+    pub(crate) fn begun<H: Wait, D: Disk>(
+        &mut self,
+        rt: &H,
+        alloc: Global,
+        service: &Service<N, D>,
+        client: &mut Client<N>,
+        mode: Mode,
+        at: usize,
+        source: &[u8],
+    ) -> Result<Prepared<N>, ServiceFault>
+        ensures text { IfOk result (λ prepared. prepared.text ≡ source.now) }
+        ensures mode { IfOk result (λ prepared. prepared.mode ≡ mode) }
+        ensures member { client.new.member ≡ client.old.member }
+    {
+        match self.take(mode, at, source) {
+            Some(prepared) => Ok(prepared),
+            None => service.prepare_in(rt, alloc, client, mode, source),
+        }
+    }
+
+    // Hands the sources of the next commands to the workers, for a script that was read up to here, unless some client waits for
+    // them. `held` is the part of the rest that has been read already.
     pub(crate) fn look_ahead<H: Wait, D: Disk>(
         &mut self,
         rt: &H,
@@ -144,6 +165,9 @@ impl<N: Named + Send + Sync + 'static> Hints<N> {
     )
         ensures { client.new.member ≡ client.old.member }
     {
+        if service.is_busy() {
+            return;
+        }
         self.looked = self.looked.max(at);
         for _ in 0..MOST_SOURCES {
             if self.is_full() {

@@ -1,15 +1,15 @@
-//! A session of a library: one client of a service does the commands of a script, over any disk, reader and writer. And serving:
-//! many clients, each of which does the scripts that its spool gives.
+//! A session of a library: one client of a service does the commands of a script, over any disk, reader and writer. Serving: many
+//! clients, each of which runs the scripts that its spool gives.
 //!
-//! `running` opens the service and ends it, `serving` does so for many clients, `generations` one such service after the other,
-//! `attending` does one script, or those of a spool, by a client of a service that runs. `bounds` says when a service is ended so
-//! that the next begins, `steward` is called then. `reading` reads a script, `held` says how far it may go, `patience` whether
-//! others wait, `calls` does its commands, `hints` hands sources in before their turn, `auditing` audits a unit, `showing` has
-//! the text of its image or its source, `telling` writes what the service answered, `end` is how a session ended. `cc_script`
-//! says which commands a script has, `cc_spool` how scripts arrive, `cc_answers` how an answer is written and a fault
-//! explained. It exports `session`, `session_and_explain`, `serve`, `serve_on`, `attend` and `play`, all but the first in a mode
-//! too; `Served` and `SessionEnd`; `Bounds`, `BOUNDS`, `Meter`; `Steward`, `NoSteward`, `Generation`, `GenerationEnd`; `Gate` and
-//! `NoGate`.
+//! `running` opens the service and ends it, `serving` does so for many clients, `generations` opens one such service after
+//! another, `attending` runs one script, or those of a spool, with a client of a service that is open. `bounds` says when a
+//! service is ended so that the next can begin, `steward` is called then. `reading` reads a script, `held` says how far it may
+//! go, `patience` whether others wait, `calls` does its commands, `hints` hands sources in before their turn, `auditing` audits a
+//! unit, `showing` has the text of its image or its source, `telling` writes what the service answered, `end` says how a session
+//! ended. `cc_script` says which commands a script has, `cc_spool` how scripts arrive, `cc_answers` how an answer is written and
+//! a fault explained. It exports `session`, `session_and_explain`, `serve`, `serve_on`, `attend` and `play`, all but `session`
+//! also in a mode; `Served` and `SessionEnd`; `Bounds`, `BOUNDS`, `Meter`; `Steward`, `NoSteward`, `Generation`, `GenerationEnd`;
+//! `Gate` and `NoGate`.
 #![tactic(auto)]
 
 mod attending;

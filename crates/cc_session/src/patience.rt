@@ -1,4 +1,4 @@
-// Whether a script is to end although more of it is left. The run of an image asks this from time to time.
+// Whether a script is to end although more of it is left. The run of an image asks from time to time.
 
 ghost use Rattle.std.specs.Prelude.{◌+◌, ℕ, [], IfOk};
 ghost use Rattle.cc_rv32.specs.Simulation.{IsAfter};
@@ -13,7 +13,7 @@ use cc_rv32::outcome::MachineOutcome;
 use cc_spool::Spool;
 use std::alloc::{AllocError, Global};
 
-// How many instructions of a run are done before it is looked again whether others wait.
+// How many instructions of a run are executed between two checks whether others wait.
 const SLICE: u64 = 10_000_000;
 
 // Decides whether a script is to end.
@@ -22,7 +22,7 @@ pub(crate) trait Patience {
     fn is_out(&self) -> bool;
 }
 
-// No one waits.
+// Nobody waits for the script to end.
 #[derive(Drop)]
 pub(crate) struct Unhurried;
 
@@ -40,13 +40,13 @@ pub(crate) struct Others<'a, S> {
 }
 
 impl<'a, S: Spool> Patience for Others<'a, S> {
-    // The script has been at work for long, and another script waits, or the server or the generation is to end.
+    // The script has run for long, and another script waits, or the server or the generation is to end.
     fn is_out(&self) -> bool {
         self.spool.is_long() && (self.spool.is_awaited() || self.meter.is_full())
     }
 }
 
-// What a machine has written, and its outcome, after this many more instructions.
+// What a machine has written after this many more instructions, and its outcome.
 fn run_to_end(alloc: Global, machine: &mut Machine, steps: u64) -> Result<ImageRun, AllocError>
     ensures { IfOk result (λ run. (image : Image) (done : ℕ) → IsAfter image [] done machine.old → IsRunOf image (done + steps) [] run) }
 {
@@ -59,8 +59,8 @@ fn run_to_end(alloc: Global, machine: &mut Machine, steps: u64) -> Result<ImageR
     }
 }
 
-// What an image does on no input within this many instructions, as `run_image` says. None if the run may be stopped, and is
-// stopped after a slice: the image is then not at its end.
+// What an image does on no input within this many instructions, as `run_image` says. None if the run was stopped after a
+// slice, which is possible only if it may be stopped: then the image is not at its end.
 pub(crate) fn run_in_slices<P: Patience>(
     alloc: Global,
     image: &Image,

@@ -13,7 +13,7 @@ use std::alloc::Global;
 use std::io::{Read, Write};
 use std::marker::Model;
 
-// A script, and who writes it. Clauses refer to what is ahead in it.
+// A script, and the reader that it comes from. Clauses refer to what is ahead in the script.
 #[derive(Drop)]
 pub(crate) struct Reading<R: Read> {
     script: Script,
@@ -38,7 +38,8 @@ pub(crate) enum Sent {
     Unended,
 }
 
-// What was sent as a source, if there was room for it, and what comes after it.
+// The source as it was sent, depending on whether there was room for it, and on whether its line ends after
+// it.
 fn behind_line(source: Option<Vec<u8>>, is_ended: bool) -> Sent
     ensures { IsSentAs source is_ended result }
 {
@@ -67,12 +68,13 @@ impl<R: Read> Reading<R> {
         SCRIPT_BYTES.saturating_sub(self.script.left())
     }
 
-    // What was read of the script and not handed out yet.
+    // The bytes of the script that were read and not handed out yet.
     pub(crate) fn held(&self) -> &[u8] {
         self.script.held()
     }
 
-    // The script's next line. If one comes and there is a limit, the result is that fault.
+    // The script's next line. If there is a further line, but also a limit, the result is the fault in
+    // `limit`.
     #[tactic(auto, using(crate::proofs::Playing::some_left))]
     pub(crate) fn next_line(
         &mut self,
@@ -111,7 +113,8 @@ impl<R: Read> Reading<R> {
         Ok(behind_line(source, is_ended))
     }
 
-    // Writes 50, that a line that was not read to its end is no command, and skips the line.
+    // Writes 50, which says that the line is not a command, before the line is read to its end; then skips
+    // the line.
     pub(crate) fn refuse_and_skip<W: Write, E: Write>(
         &mut self,
         answers: &mut W,

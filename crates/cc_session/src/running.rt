@@ -32,8 +32,7 @@ use std::snapshot::Snapshot;
 use std::sync::Wait;
 use std::thread::Threads;
 
-// What a service begins with: the library as its opening left it, which knows its disk as it was before, and which no type names
-// yet.
+// What a service begins with: the library as its opening left it, and the disk as it was before. No type names them yet.
 #[derive(Drop)]
 pub(crate) struct Begun<D: Disk> {
     pub(crate) library: Library<D>,
@@ -67,9 +66,9 @@ pub(crate) fn begin<D: Disk + Drop>(alloc: Global, disk: D) -> Result<Begun<D>, 
     }
 }
 
-// The end of a service that was given up. If its clients' receipts are not all there it is 39, whatever fault ended their work.
-// If they are, it is the fault that ended the work; otherwise 40, since there was no memory to end. The line is written only for
-// a fault that first arises here.
+// The end of a service that was given up. If its clients' receipts are not all in the history, it is 39, whatever fault ended
+// their work. If they are, it is the fault that ended the work; if none did, it is 40, since there was no memory to end the
+// service. The line is written only for a fault that first arises here.
 fn given_up<W: Write, E: Write>(
     alloc: Global,
     are_all: bool,
@@ -103,7 +102,7 @@ fn ended(played: Result<(), ScriptFault>) -> SessionEnd
     }
 }
 
-// Does a script with one client of a service. The clause holds however the session ends after this, if nothing is written in
+// Runs a script with one client of a service. The clause holds however the session ends afterwards, if nothing is written in
 // between.
 fn play_alone<N, H, R, W, E, D>(
     rt: &H,
@@ -154,7 +153,7 @@ fn disk_of<D: Disk>(closed: Closed<D>) -> D
     library.into_disk()
 }
 
-// Ends a service whose clients' work ended like this; if its end is refused, the service is given up.
+// Ends a service whose clients' work ended like this. If the service can't be ended, it is given up.
 pub(crate) fn finish<N, H, W, E, D>(
     rt: &H,
     alloc: Global,
@@ -170,7 +169,7 @@ where
     W: Write,
     E: Write,
     D: Disk,
-    // This holds for any bytes that recover to the map that the service's type names.
+    // The clause holds for any bytes that recover to the map that the service's type names.
     ensures ended { (bytes : List ℕ) → (IsTrue D.honest → Recovers bytes N.base)
         → IsEnded D.Disk N.failures bytes N.from N.left (members clients.items) played result.1 result.0 }
     // Nothing is written if the service ends as the clients' work did.
@@ -189,7 +188,7 @@ where
     }
 }
 
-// Opens a service, does a script and ends the service.
+// Opens a service, runs a script and ends the service.
 fn do_script<N, H, R, W, E, D, G>(
     rt: &H,
     alloc: Global,
@@ -254,9 +253,9 @@ where
     }
 }
 
-/// Does the commands of a script in a mode as `session` does, and writes to `explanations` what helps a person with a fault: the
-/// place in the source that was sent, as `check` reports it, or a few words. If such a write fails, the session goes on. The
-/// workers pass `gate`, which can show how far a long `add` is.
+/// Does the commands of a script in a mode as `session` does, and explains faults to a person in `explanations`: the place in the
+/// source that was sent, as `check` reports it, or a few words. If such a write fails, the session goes on. The workers pass
+/// `gate`, which can show how far a long `add` has got.
 pub fn session_and_explain_in<H, R: Read, W: Write, E: Write, D: Disk + Drop, G>(
     rt: &H,
     alloc: Global,
@@ -299,7 +298,7 @@ where
     }
 }
 
-/// The same in the plain mode: `session_and_explain_in`.
+/// `session_and_explain_in` in the plain mode.
 pub fn session_and_explain<H, R: Read, W: Write, E: Write, D: Disk + Drop, G>(
     rt: &H,
     alloc: Global,
@@ -333,15 +332,15 @@ where
 /// Opens the library on a disk as a service with this many workers, 1 to 8, does the commands of a script with one client, and
 /// ends the service.
 ///
-/// The script, a plain one, comes from `reader`, each answer goes to `writer`, which is flushed after it. If the session ends as
-/// the script did (`Finished`, or 51 to 53) the writer got the lines of the script's turns in their order, and no other byte. For
-/// a refusal its fault's line is written, and the session goes on; a fault of the opening, of the script (51 to 54; 54 has no
-/// line) or of the service's end (39, 40) ends it. The end is the first of these faults, but 39 takes precedence over a fault of
-/// the script. The disk is handed back after each.
+/// The script, a plain one, comes from `reader`; each answer goes to `writer`, which is flushed after it. If the session ends as
+/// the script did (`Finished`, or 51 to 53), the writer got the lines of the script's turns, in order, and no other byte. For a
+/// call that is refused the fault's line is written, and the session goes on; a fault of the opening, of the script (51 to 54; 54
+/// has no line) or of the service's end (39, 40) ends it. The end is the first of these faults, but 39 takes precedence over a
+/// fault of the script. The disk is handed back whatever the end is.
 ///
-/// 51 comes only if the script has fewer bytes than a line's source, 52 only if it has more than 16,777,216. After each end but
-/// 39 the library is kept with all that the client's receipts say. 39 says that a receipt is not in the history, or that other
-/// calls are: then some legal history is kept.
+/// 51 comes only if the script ends within a line's source, 52 only if it has more than 16,777,216 bytes. After each end but 39
+/// the library has everything that the client's receipts say. 39 says that a receipt is not in the history, or that other calls
+/// are: then the library has some legal history.
 pub fn session<H, R: Read, W: Write, D: Disk + Drop>(
     rt: &H,
     alloc: Global,

@@ -1,8 +1,8 @@
 // Many clients of one service, each in a thread of its own with the scripts that its spool gives, from the opening of the service
 // to its end.
 //
-// All memory that this needs, except the clients' own, is taken before the service is opened, so that no client is lost once it
-// works. The disk and the spools are handed back, so a next service can go on with them.
+// All memory that this needs, except the clients' own, is allocated before the service is opened, so that no client is lost once
+// it works. The disk and the spools are handed back, so that another service can go on with them.
 
 ghost use Rattle.std.specs.Prelude.{◌≡◌, ◌≤◌, ℕ, All, List, [], IsTrue, IfOk, IfErr, OnErr, OnOk, map, vec_len};
 ghost use Rattle.std.specs.Vec.{vec_capacity};
@@ -67,7 +67,7 @@ fn room_for<N: Named, S: Drop>(alloc: Global, count: usize) -> Result<Room<N, S>
     })
 }
 
-// Makes this many clients of a service; 30 if the service has fewer.
+// Makes this many clients of a service; 30 if the service does not have that many.
 fn hire<N, H, D>(
     rt: &H,
     alloc: Global,
@@ -135,7 +135,7 @@ fn dismiss<N: Named, S: Drop>(
     }
 }
 
-// Makes a client for each spool and puts it beside. If the service has too few of them the spools are handed back.
+// Makes a client for each spool and pairs the two. If the service has too few clients, the spools are handed back.
 fn staff<N, H, S, D>(
     rt: &H,
     alloc: Global,
@@ -170,7 +170,7 @@ where
     }
 }
 
-// What is there when the clients have ended their work: the clients, their spools, and how the work ended.
+// What is left when the clients have ended their work: the clients, their spools, and how the work ended.
 #[derive(Drop)]
 struct Worked<N: Named, S> {
     clients: Vec<Client<N>>,
@@ -178,7 +178,7 @@ struct Worked<N: Named, S> {
     end: SessionEnd,
 }
 
-// All clients are done.
+// What is left when all clients have done their work.
 fn done<N: Named, S: Drop>(room: Room<N, S>) -> Worked<N, S>
     requires clients { (room.clients.items ≡ []) × (vec_len room.posts ≤ vec_capacity room.clients) }
     requires spools { (room.spools.items ≡ []) × (vec_len room.posts ≤ vec_capacity room.spools) }
@@ -199,7 +199,7 @@ fn done<N: Named, S: Drop>(room: Room<N, S>) -> Worked<N, S>
     }
 }
 
-// The service had too few clients: 30.
+// What is left if the service had too few clients: 30.
 fn unhired<N: Named, S: Drop>(spools: Vec<S>, room: Room<N, S>) -> Worked<N, S>
     ensures clients { result.clients ≡ room.clients }
     ensures spools { result.spools ≡ spools }
@@ -213,7 +213,7 @@ fn unhired<N: Named, S: Drop>(spools: Vec<S>, room: Room<N, S>) -> Worked<N, S>
     }
 }
 
-/// What is left of serving: the disk; the spools, in their order; how serving ended.
+/// What serving hands back: the disk; the spools, in order; and how serving ended.
 #[derive(Drop)]
 pub struct Served<D: Drop, S: Drop> {
     pub disk: D,
@@ -221,7 +221,7 @@ pub struct Served<D: Drop, S: Drop> {
     pub end: SessionEnd,
 }
 
-// What is left if no service was opened, for this reason.
+// What serving hands back if no service was opened, for this reason.
 fn unserved<S: Spool + Drop, D: Disk + Drop>(
     spools: Vec<S>,
     disk: D,
@@ -240,7 +240,7 @@ fn unserved<S: Spool + Drop, D: Disk + Drop>(
     }
 }
 
-// Ends a service whose clients worked so, and reports that to the steward if scripts were taken.
+// Ends a service whose clients have done this work, and reports that to the steward if scripts were taken.
 fn end_service<N, H, S, E, D, T>(
     rt: &H,
     alloc: Global,
@@ -257,7 +257,7 @@ where
     E: Write,
     D: Disk + Drop,
     T: Steward,
-    // This holds for any bytes that recover to the map that the service's type names.
+    // The clause holds for any bytes that recover to the map that the service's type names.
     ensures ended { (bytes : List ℕ) → (IsTrue D.honest → Recovers bytes N.base)
         → IsEnded D.Disk N.failures bytes N.from N.left (members worked.clients.items) worked.end result.end result.disk }
     ensures spools { result.spools ≡ worked.spools }
@@ -282,7 +282,7 @@ where
     Served { disk, spools, end }
 }
 
-// Opens a service, with room for so many clients and spools.
+// Opens a service, with room for this many clients and spools.
 fn open_service<N, H, S, D, G>(
     rt: &H,
     alloc: Global,
@@ -330,8 +330,9 @@ where
     }
 }
 
-// Opens a service with a client for each spool, which does what this gives, in a thread of its own if one can be made; those for which none can be
-// made begin when others have ended. If the service has too few clients nothing is done. Then it is ended.
+// Opens a service with a client for each spool, which runs the spool's scripts, in a thread of its own if one can be made;
+// clients for which no thread can be made begin when others have ended. If the service has too few clients, nothing is run. Then
+// the service is ended.
 fn serve_begun<N, H, S, E, D, G, T>(
     rt: &H,
     alloc: Global,
@@ -445,15 +446,16 @@ where
     }
 }
 
-/// Opens the library on a disk as a service with this many workers, 1 to 8, and a client for each spool, 1,024 at most. Each
-/// client does the scripts that its spool gives in a mode, as `attend_in` says, until the spool is over or the clients together
+/// Opens the library on a disk as a service with this many workers, 1 to 8, and a client for each spool, at most 1,024. Each
+/// client runs the scripts that its spool gives in a mode, as `attend_in` says, until the spool is over or the clients together
 /// have done as much as `bounds` says; then the service is ended. Each client does so in a thread of its own if one can be made;
-/// those for which none can be made begin when others have ended. The workers pass `gate`, which can show how far a long `add`
-/// is. `steward` is called when scripts are taken and, if they were, with how the service ended.
+/// clients for which no thread can be made begin when others have ended. The workers pass `gate`, which can show how far a long
+/// `add` has got. `steward` is called when scripts are taken and, if they were, with how the service ended.
 ///
 /// The line for a fault of the opening (35, 37, 38, 40, 41; 30 if there are too many spools) or of the end (39, 40) goes to
-/// `writer`, and what helps a person with it to `explanations`. `end` is the first of these faults, or 39, and its line is
-/// written. A fault that ends a script is reported only in the script's answer. Disk and spools are handed back after each.
+/// `writer`, and its explanation for a person to `explanations`. `end` is the first of these faults, or 39, and its line is
+/// written. A fault that ends a script is reported only in the script's answer. The disk and the spools are handed back after any
+/// fault.
 pub fn serve_in<H, S, W, E, D, G, T>(
     rt: &H,
     alloc: Global,
@@ -479,7 +481,7 @@ where
     requires few { workers ≤ 8 }
     ensures answers { ServingEnds mode D.Disk
         (map (given_by S.taken S.ended) spools.items) (map (given_by S.taken S.ended) result.spools.items) disk result.disk result.end }
-    // Nothing is written if no fault ended it.
+    // If no fault ended serving, nothing is written.
     ensures still { result.end ≡ Finished → W.contents writer.new ≡ W.contents writer.old }
 {
     let left = serve_quietly(
@@ -498,7 +500,7 @@ where
     left
 }
 
-/// The same in the plain mode: `serve_in`.
+/// `serve_in` in the plain mode.
 pub fn serve<H, S, W, E, D, G, T>(
     rt: &H,
     alloc: Global,
@@ -523,7 +525,7 @@ where
     requires few { workers ≤ 8 }
     ensures answers { ServingEnds Plain D.Disk
         (map (given_by S.taken S.ended) spools.items) (map (given_by S.taken S.ended) result.spools.items) disk result.disk result.end }
-    // Nothing is written if no fault ended it.
+    // If no fault ended serving, nothing is written.
     ensures still { result.end ≡ Finished → W.contents writer.new ≡ W.contents writer.old }
 {
     serve_in(

@@ -1,4 +1,4 @@
-// What is written of a unit that was found: its image or its source, as an answer has it.
+// What is written for a unit that was found: its image or its source, in the form that an answer has.
 
 ghost use Rattle.std.specs.Prelude.{◌≡◌, IfOk};
 ghost use Rattle.cc_session.specs.Showing.{IsShownOf};

@@ -1,10 +1,10 @@
-// What a server does is reported here.
+// How a server reports what it does.
 
 use crate::end::SessionEnd;
 use std::io::Write;
 
 /// Why the clients of a generation took no further script.
-#[derive(Clone, Copy, Debug, Drop, PartialEq, Eq)]
+#[derive(Clone, Copy, Drop, PartialEq, Eq)]
 pub enum GenerationEnd {
     /// Each spool is over.
     Over,
@@ -15,13 +15,13 @@ pub enum GenerationEnd {
 }
 
 /// What a generation did, from the opening of its service to the end.
-#[derive(Clone, Copy, Debug, Drop, PartialEq, Eq)]
+#[derive(Clone, Copy, Drop, PartialEq, Eq)]
 pub struct Generation {
-    /// The scripts that were taken. Each was done, and its answer handed over.
+    /// The number of scripts that were taken. Each was done, and its answer handed over.
     pub scripts: u64,
-    /// The calls that the history has: those of the clients' receipts.
+    /// The number of calls in the history: those of the clients' receipts.
     pub entries: u64,
-    /// The bytes that the history is counted to hold.
+    /// The number of bytes that the history is counted to hold.
     pub bytes: u64,
     /// Why the clients took no further script.
     pub why: GenerationEnd,
@@ -29,9 +29,9 @@ pub struct Generation {
     pub end: SessionEnd,
 }
 
-/// Called when a generation begins and ends; it may do something then: write a line, clean a folder. Both calls come from the
-/// thread that serves, between generations, so no script is being done and none is taken before they return. What helps a person
-/// with a fault goes to `told`.
+/// Called when a generation begins and when it ends; an implementation may then write a line or clean a folder, for instance.
+/// Both calls come from the thread that serves, between generations, so no script is being done and none is taken before they
+/// return. Explanations for a person go to `told`.
 pub trait Steward {
     /// The library is open, and scripts are taken from now on.
     fn opened<E: Write>(&mut self, told: &mut E);

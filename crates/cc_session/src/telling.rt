@@ -1,4 +1,4 @@
-// What is written of what a service answered.
+// How an answer of a service is written.
 
 ghost use Rattle.std.specs.Prelude.{◌≡◌, List, ℕ};
 ghost use Rattle.cc_answers.specs.Telling.{Tells};
@@ -16,7 +16,7 @@ use cc_service::ServiceFault;
 use std::alloc::Global;
 use std::io::Write;
 
-// The position of a refusal of the service in the source.
+// The place in the source to which a refusal refers.
 fn stands_of(fault: &ServiceFault) -> Stands<'_>
     ensures { (source : List ℕ) → position_text source result ≡ where_text source fault.now }
 {
@@ -34,7 +34,7 @@ fn stands_of(fault: &ServiceFault) -> Stands<'_>
     }
 }
 
-// A refusal of the service, as it is written.
+// The parts of a refusal of the service that are written.
 fn refusal_of(fault: &ServiceFault) -> Refusal<'_>
     ensures number { result.number ≡ fault_number fault.now }
     ensures stands { (source : List ℕ) → position_text source result.stands ≡ where_text source fault.now }
@@ -45,7 +45,7 @@ fn refusal_of(fault: &ServiceFault) -> Refusal<'_>
     }
 }
 
-// Writes a refusal, for the source that was sent.
+// Writes a refusal; the source that was sent gives the place.
 pub(crate) fn refuse<W: Write, E: Write>(
     alloc: Global,
     fault: ServiceFault,
@@ -108,7 +108,7 @@ pub(crate) fn tell_end<W: Write, E: Write>(
     }
 }
 
-// Writes that a change was made, or why not, for the source that was sent.
+// Writes that a change was made, or why not, with the place in the source that was sent.
 pub(crate) fn tell_change<W: Write, E: Write>(
     alloc: Global,
     answer: Result<Receipt, ServiceFault>,

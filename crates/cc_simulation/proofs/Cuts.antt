@@ -31,7 +31,7 @@ module _ {C : Type 0} (move : C → Move C) (output : C → List ℕ) (effect : 
   starts zero j c = begins_refl (output c)
   starts (suc k) j c = starts_at k j c (move c) refl (starts k)
 
-  -- comparable cuts stay comparable with the same work before both
+  -- comparable cuts stay comparable if the same work is added before both
   after : (x y : Outcome Answer) (v w m n : ℕ) → m ≡ n → Comparable x v y w → Comparable x (suc (m + v)) y (suc (n + w))
   after x y v w m n e (inl b) = inl (record { work_le = let h = b.work_le in omega arith; output = b.output; stays = b.stays })
   after x y v w m n e (inr b) = inr (record { work_le = let h = b.work_le in omega arith; output = b.output; stays = b.stays })
@@ -46,7 +46,7 @@ module _ {C : Type 0} (move : C → Move C) (output : C → List ℕ) (effect : 
   unfinished k' j d resume o (Unfinished p) within later = record { work_le = omega arith; output = later; stays = tt }
   unfinished k' j d resume o (Failed p) within later = record { work_le = omega arith; output = later; stays = tt }
 
-  -- a cut at a call, and one with d more steps for it
+  -- a cut at a call is comparable to one with d more steps for the call
   more : (k k' j d : ℕ) (resume : Answer → C) (e f : Effect) → Within j e → Within (j + d) f → LaterAt output resume e d f
       → ((i i' : ℕ) (b : C) → Comparable (run move output effect k i b) (work move effect k i b) (run move output effect k' i' b) (work move effect k' i' b))
       → Comparable (resumed e resume (run move output effect k)) (suc (work_resumed e resume j (work move effect k)))

@@ -48,7 +48,7 @@ module _ {C : Type 0} (move : C → Move C) (output : C → List ℕ) (effect : 
   within_move k j c (Returns r) e ih = omega arith
   within_move k j c Fails e ih = omega arith
 
-  -- the work is no more than the bounds
+  -- the work is at most the sum of the bounds
   bounded : (k j : ℕ) (c : C) → work move effect k j c ≤ k + j
   bounded zero j c = omega arith
   bounded (suc k) j c = within_move k j c (move c) refl (bounded k)
@@ -59,7 +59,7 @@ module _ {C : Type 0} (move : C → Move C) (output : C → List ℕ) (effect : 
   covered_refl : (a : Outcome Answer) → IsRight a.stop → Covered a a
   covered_refl a ok = (ok, begins_refl a.output, λ r e. e)
 
-  -- an outcome that begins a right one is covered by it
+  -- an outcome that begins a right outcome is covered by that one
   covered_by : (z a : Outcome Answer) (t : Stop Answer) → z.stop ≡ t → StaysBy t z a → IsRight a.stop → IsPrefixOf z.output a.output → Covered z a
   covered_by z a Going e stays ok b = (subst IsRight (sym e) tt, b, λ r f. absurd (let g : Going ≡ Ended r = sym e ∙ f in cc))
   covered_by z a (Ended q) e stays ok b = subst (Covered z) (sym stays) (covered_refl z (subst IsRight (sym e) tt))
@@ -90,7 +90,7 @@ module _ {C : Type 0} (move : C → Move C) (output : C → List ℕ) (effect : 
   covers n b d a (Ended r) e ok m lt = covers_ended b d a r e m (comparable move output effect laws b.0 d.0 b.1 d.1 start)
   covers n b d a Wrong e ok m lt = absurd ok
 
-  -- the cut (k, j) is covered by the source at k + j + 1 steps
+  -- the cut (k, j) is covered by the source at rate * (k + j + 1) + 1 steps
   abbrev bound : ℕ × ℕ → ℕ
   bound b = suc (rate * suc (b.0 + b.1))
 

@@ -4,7 +4,7 @@ pub mod Behaving
 pub mod Cuts
 -- a run that keeps up with the source follows it
 pub mod Following
--- what a simulation gives
+-- what follows from a simulation
 pub mod Simulating
 -- two languages in lockstep have the same run
 pub mod Lockstep

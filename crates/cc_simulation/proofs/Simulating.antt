@@ -1,5 +1,5 @@
--- What a simulation gives: a cut of the new run for each cut of the old one; and what the old run guarantees, the new one
--- guarantees at a coarser rate.
+-- What follows from a simulation: there is a cut of the new run for each cut of the old one; and what the old run guarantees, the
+-- new one guarantees at a coarser rate.
 use Rattle.std.proofs.Common.{◌≡◌, ℕ, zero, suc, ◌+◌, ◌-◌, ◌*◌, ◌<◌, ◌≤◌, List, refl, ap, ◌∙◌, subst, ◌⊎◌, inl, inr, arith}
 use Rattle.std.proofs.Math.Nat.{mul-suc, suc-mul, mul-le-mul_left, mul-add, mul_assoc}
 use Rattle.cc_simulation.specs.Behavior.{Stop, Going, Ended, Wrong, Outcome, AreWords}
@@ -9,7 +9,7 @@ use Rattle.cc_simulation.specs.Meaning.{Meaning, IsCall, call_effect}
 use Rattle.cc_simulation.specs.Tracks.{Keeps, Tracks, TracksForAll}
 use Rattle.cc_simulation.specs.internal.Simulation.{Way, Advances, Asks, Ending, Simulation}
 
--- one path after another
+-- a path of n moves and then one of m moves are a path of n + m moves
 pub way_then : {D : Type 0} (move : D → Move D) (output : D → List ℕ) (n m : ℕ) (d e f : D) → Way move output n d e → Way move output m e f → Way move output (n + m) d f
 way_then {D} move output zero zero d e f p q = (p.0 ∙ q.0, p.1 ∙ q.1)
 way_then {D} move output zero (suc m) d e f p (u, q, r) =
@@ -75,7 +75,7 @@ module _ {C D : Type 0} (old : C → Move C) (old_output : C → List ℕ) (new 
       pub shows : Shown a.stop a (new_run moves j d)
       pub paid : done ≤ top + suc deep * new_work moves j d
 
-    -- a cut after a path
+    -- a cut after a path is a cut from the path's start
     after_way : (n k j m done top : ℕ) (a : Outcome Answer) (d e : D) → Way new new_output n d e → n + m ≤ suc wide * suc k → Shown a.stop a (new_run m j e) → done ≤ top + suc deep * (n + new_work m j e) → Cut top (suc k) j a done d
     after_way n k j m done top a d e p few x le =
         let same : new_run (n + m) j d ≡ new_run m j e = way_run n m j d e p in

@@ -1,8 +1,8 @@
 -- What a bounded run shows, and when one behavior follows another. A behavior is a function from a bound to an outcome. A bound
--- is a number of steps of the source, a number of instructions, or a number of moves and one of steps in calls.
+-- is a number of steps of the source, a number of instructions, or a number of moves with a number of steps in calls.
 use Rattle.std.specs.Prelude.{◌≡◌, ℕ, ◌^◌, ◌<◌, ◌≤◌, List, [], ◌∷◌, ◌++◌}
 
--- each is a word
+-- each number is a word
 abbrev pub AreWords : List ℕ → Type 0
 AreWords [] = Unit {0}
 AreWords (w ∷ ws) = (w < 2 ^ 32) × AreWords ws
@@ -43,8 +43,8 @@ pub record Follows {B C R : Type 0} (a : B → Outcome R) (z : C → Outcome R) 
   pub never_wrong : ((n : B) → IsRight (a n).stop) → (m : C) → IsRight (z m).stop
   pub no_more : ((n : B) → IsRight (a n).stop) → (m : C) → (n : B) × IsPrefixOf (z m).output (a n).output × EndsAlike (z m).stop (a n).stop
 
--- the same for a run z that depends on unknown words: it follows a for every list of them, and for each bound of a there are two
--- limits that are the same for all lists
+-- z, a run that depends on unknown words, follows a for every list of words, and for each bound of a there are two limits that
+-- are the same for all lists
 pub record FollowsForAll {B R : Type 0} (a : B → Outcome R) (z : List ℕ → ℕ × ℕ → Outcome R) : Type 0 where
   pub each : (words : List ℕ) → AreWords words → Follows a (z words)
   pub within : (n : B) → IsRight (a n).stop → (most : ℕ × ℕ) × ((words : List ℕ) → AreWords words → (m : ℕ × ℕ) × (m.0 ≤ most.0) × (m.1 ≤ most.1) × Shows (a n) (z words m))

@@ -11,7 +11,7 @@ pub record IsLayer {C : Type 0} (move : C → Move C) (output : C → List ℕ) 
   pub hands_over : (c : C) (q : Question) (resume : Answer → C) → move c ≡ Calls q resume → q.world.output ≡ output c
   pub resumes : (c : C) (q : Question) (resume : Answer → C) → move c ≡ Calls q resume → (a : Answer) → output (resume a) ≡ a.world.output
 
--- y equals x, if x is over
+-- if the run has stopped at x, y equals x
 abbrev pub StaysBy : {R : Type 0} → Stop R → Outcome R → Outcome R → Type 0
 StaysBy Going x y = Unit {0}
 StaysBy (Ended r) x y = y ≡ x

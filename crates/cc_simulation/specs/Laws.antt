@@ -1,7 +1,6 @@
--- The laws of runs. Each is the contract of a function of this crate, for Rust's types. The configurations of our languages are
--- types of specs, so a language's own law uses the lemma of the same form in `proofs/` (`Behaving`, `Cuts`, `Following`). The
--- laws of simulations are only lemmas (`proofs/Simulating`, `proofs/Lockstep`), because they range over relations, which no
--- contract can.
+-- The laws of runs. Each is the contract of a function of this crate, for Rust's types. The configurations of our languages are types of
+-- specs, so a language's own law uses the lemma of the same form in `proofs/` (`Behaving`, `Cuts`, `Following`). The laws of simulations
+-- are only lemmas (`proofs/Simulating`, `proofs/Lockstep`), because they range over relations, which no contract can.
 use Rattle.std.specs.Prelude.{ℕ, suc, ◌<◌, List}
 use Rattle.cc_simulation.specs.Behavior.{Outcome, Follows, FollowsForAll}
 use Rattle.cc_simulation.specs.World.{World}
@@ -18,7 +17,7 @@ FollowsItself B R = (a : B → Outcome R) → Follows a a
 abbrev pub FollowsOn : (A B C R : Type 0) → Type 0
 FollowsOn A B C R = (a : A → Outcome R) (b : B → Outcome R) (z : C → Outcome R) → Follows a b → Follows b z → Follows a z
 
--- the same for a run that depends on unknown words, for all of them
+-- following is transitive also for a run that depends on unknown words, for all lists of them
 abbrev pub FollowsOnForAll : (A B R : Type 0) → Type 0
 FollowsOnForAll A B R = (a : A → Outcome R) (b : B → Outcome R) (z : List ℕ → ℕ × ℕ → Outcome R) → Follows a b → FollowsForAll b z → FollowsForAll a z
 
@@ -35,7 +34,7 @@ TrackedFollows C =
     → (opened : ℕ) → opened < most_open → (ws : List ℕ) (h : World) → IsCall meaning f ws h
     → Follows (λ n. answered (meaning.body n opened f ws h)) (λ (b : ℕ × ℕ). run move output (call_effect meaning (suc opened)) b.0 b.1 (start ws h))
 
--- the same for a run that depends on unknown words, for every list of words
+-- a run that depends on unknown words and keeps up with the source, for every list of words, follows it
 abbrev pub TrackedFollowsForAll : (C : Type 0) → Type 0
 TrackedFollowsForAll C =
     (meaning : Meaning) (move : C → Move C) (output : C → List ℕ) → IsLayer move output → (f rate : ℕ) (start : List ℕ → List ℕ → World → C) → TracksForAll meaning f rate move output start

@@ -7,7 +7,7 @@ use Rattle.cc_simulation.specs.World.{Size, World, Question, Answer, Effect, Giv
 abbrev pub most_open : ℕ
 most_open = 1024
 
--- an answer is the same with exactly the steps that it spent, and with any more
+-- a call gives the same answer with exactly the steps that it spent, and with any number more
 abbrev pub IsExact : (ℕ → Effect) → Type 0
 IsExact effect = (n left : ℕ) (a : Answer) → effect n ≡ Gives a left → (left ≤ n) × ((more : ℕ) → effect (n - left + more) ≡ Gives a more)
 
@@ -23,8 +23,8 @@ Later more (Gives a left) z = z ≡ Gives a (left + more)
 Later more (Unfinished o) z = IsPrefixOf o (written_by z)
 Later more (Failed o) z = z ≡ Failed o
 
--- a unit's meaning: `call n opened f ws h` is a call of function f within n steps while this many calls are open; `body` is what
--- the function does after the call's own step
+-- a unit's meaning: `call n opened f ws h` is a call of function f within n steps while `opened` calls are open; `body` is what the
+-- function does after the call's own step
 pub record Meaning : Type 0 where
   -- how many functions there are, and how many parameters each has
   pub functions : ℕ
@@ -33,8 +33,7 @@ pub record Meaning : Type 0 where
   pub objects : List Size
   pub call : (n opened f : ℕ) → List ℕ → World → Effect
   pub body : (n opened f : ℕ) → List ℕ → World → Effect
-  -- with no step left a call is unfinished; the 1,025th open call goes wrong; any other call is the function's body with one step
-  -- less
+  -- with no step left, a call is unfinished; the 1,025th open call goes wrong; any other call is the function's body with one step less
   pub none_left : (opened f : ℕ) (ws : List ℕ) (h : World) → f < functions → call 0 opened f ws h ≡ Unfinished h.output
   pub too_deep : (n f : ℕ) (ws : List ℕ) (h : World) → f < functions → call (suc n) most_open f ws h ≡ Failed h.output
   pub spends : (n opened f : ℕ) (ws : List ℕ) (h : World) → f < functions → opened < most_open → call (suc n) opened f ws h ≡ body n opened f ws h

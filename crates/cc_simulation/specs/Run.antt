@@ -11,7 +11,7 @@ pub data Move (C : Type 0) : Type 0 where
   Returns : Answer → Move C
   Fails : Move C
 
--- a move with something that may be absent (no such element, no quotient); if it is absent the run goes wrong
+-- a move with something that may be absent (no such element, no quotient); if it is absent, the run goes wrong
 abbrev pub tried : {C X : Type 0} → Option X → (X → Move C) → Move C
 tried None go = Fails
 tried (Some x) go = go x

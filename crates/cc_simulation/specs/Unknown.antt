@@ -1,8 +1,8 @@
 -- In languages with registers and stack slots, it is unknown what these hold at a function's entry, and what a destroyed register
 -- holds after a call, a read or a write. They hold the words of a given list, 0 past its end, in this one order. At entry: the 32
--- registers in the order of their numbers, and then the slots. (A parameter's register and a register that is never allocated use
--- up their word too: the arguments are put over them.) After a call: 32 more words; each destroyed register has the one at its
--- own number. After a read or a write: one more word, for the one register that is destroyed.
+-- registers, in order of their numbers, and then the slots. (A parameter's register and a register that is never allocated use up
+-- their word too: the arguments are put over them.) After a call: 32 more words; each destroyed register has the one at its own
+-- number. After a read or a write: one more word, for the one register that is destroyed.
 use Rattle.std.specs.Prelude.{ℕ, List, get_or, take, drop, Bool, ◌&&◌, ◌||◌, nat_le, if◌then◌else◌}
 use Rattle.cc_simulation.specs.World.{first_or_zero, rest_of}
 

@@ -36,8 +36,8 @@ pub record Answer : Type 0 where
   pub value : ℕ
   pub world : World
 
--- the effect of a call within a number of steps: an answer and the number of steps left; or no step left, or wrong, each with the
--- output so far
+-- the effect of a call within a number of steps: an answer and the number of steps left; or no step is left, or it goes wrong,
+-- each with the output so far
 pub data Effect : Type 0 where
   Gives : Answer → ℕ → Effect
   Unfinished : List ℕ → Effect
@@ -54,7 +54,7 @@ object_words h object = (object_of h object).words
 abbrev pub size_in : List Size → (object : ℕ) → Size
 size_in objects object = get_or objects object (record { width = Word; elements = 0 })
 
--- each object has its size, and everything is a word, also in the input
+-- each object has its size, and all values are words, those of the input too
 pub record IsWorld (objects : List Size) (h : World) : Type 0 where
   pub sizes : map size_of h.globals ≡ objects
   pub globals : (g : ℕ) → AreWords (object_words h g)

@@ -1,4 +1,4 @@
--- The table of what functions take from the stack.
+-- The table of the stack that functions need.
 use Rattle.std.proofs.Common.{◌≡◌, ℕ, zero, suc, ◌+◌, ◌*◌, ◌<◌, ◌≤◌, List, [], ◌∷◌, ◌++◌, length, get_or, drop, refl, sym, ap, ◌∙◌, arith, append_assoc}
 use Rattle.std.proofs.lemmas.Bool.Decides.{nat_tests}
 use Rattle.std.proofs.lemmas.List.{drop_more}
@@ -21,7 +21,7 @@ most_low n m (Plain i ∷ items) h = most_low n m items h
 most_low n m (Call g ∷ items) h = larger_low (n g) (most_called n items) m (h g) (most_low n m items h)
 most_low n m (Go k ∷ items) h = most_low n m items h
 
--- one more item is looked at, at the beginning of the rest
+-- it does not matter whether the next item is compared with those before it or with those after it
 larger_twice : (a b c : ℕ) → larger (larger a b) c ≡ larger a (larger b c)
 larger_twice a b c = grind (arith, nat_tests)
 
@@ -62,7 +62,7 @@ need_next own bodies table more calls count same made f =
     ap (λ (l : List ℕ). get_or l f 0) made ∙ deeper_at (λ g. get_or table g 0) own bodies count f
     ∙ ap (λ (n : ℕ → ℕ). get_or own f 0 + most_called n (get_or bodies f [])) (λ i. λ g. same g i) ∙ ap (λ (k : ℕ). need own bodies k f) one
 
--- one more function is added to the table
+-- once the entry of one more function is added, the entries so far and the rest still make up the table
 pub deeper_next : (n : ℕ → ℕ) (own : List ℕ) (ps : List (Bor Piece)) (at : ℕ) (d : Bor Piece) (before new all : List ℕ) (word : ℕ) → at < length own → length ps ≡ length own → d ≡ get_or ps at d → word ≡ get_or own at 0 + most_called n d.now.items → new ≡ before ++ word ∷ []
     → before ++ deeper n (drop at own) (all_items (lent_pieces (drop at ps))) ≡ all → new ++ deeper n (drop (at + 1) own) (all_items (lent_pieces (drop (at + 1) ps))) ≡ all
 deeper_next n own ps at d before new all word lt count is whose pushed h =

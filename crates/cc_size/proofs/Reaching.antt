@@ -116,7 +116,7 @@ reach_next bodies t calls table more count same made f =
     ap (λ (l : List Bool). get_or l f false) made ∙ nearer_at (λ g. get_or table g false) table bodies count f
     ∙ ap₂ (λ (b : Bool) (is : ℕ → Bool). b || items_call is (get_or bodies f [])) (same f) (λ i. λ g. same g i) ∙ ap (λ (k : ℕ). reaches bodies t k f) one
 
--- one more function is added to the table
+-- once the entry of one more function is added, the entries so far and the rest still make up the table
 pub nearer_next : (is : ℕ → Bool) (table : List Bool) (ps : List (Bor Piece)) (at : ℕ) (d : Bor Piece) (before new all : List Bool) (b : Bool) → at < length table → length table ≡ length ps → d ≡ get_or ps at d → b ≡ (get_or table at false || items_call is d.now.items) → new ≡ before ++ b ∷ []
     → before ++ nearer is (drop at table) (all_items (lent_pieces (drop at ps))) ≡ all → new ++ nearer is (drop (at + 1) table) (all_items (lent_pieces (drop (at + 1) ps))) ≡ all
 nearer_next is table ps at d before new all b lt count is_d whose pushed h =
@@ -142,7 +142,7 @@ found_first bodies found e = record {
     nowhere it (inl lt) = omega arith
     nowhere it (inr p) = (let lt = p.1 in omega arith)
 
--- one more call is looked at, which is part of a cycle or is not
+-- `FoundUpTo` holds with one more call that was looked at, if it is part of a cycle; then, if it is not
 found_yes : (bodies : List (List PieceItem)) (f m : ℕ) (old : List Recursion) → items_call (λ g. g == m) (get_or bodies f []) ≡ true → reaches bodies f (length bodies) m ≡ true → FoundUpTo bodies f m old → FoundUpTo bodies f (m + 1) (old ++ record { caller = f; called = m } ∷ [])
 found_yes bodies f m old calls back o = record {
   each = λ other c. by_case other (Contains-push_cases old it other c);
@@ -206,7 +206,7 @@ pub found_next : (bodies : List (List PieceItem)) (f m : ℕ) (old new : List Re
 found_next bodies f m old new is put e o =
     subst (FoundUpTo bodies f (m + 1)) (sym put) (found_next_by bodies f m old (items_call (λ g. g == m) (get_or bodies f [])) (reaches bodies f (length bodies) m) is refl refl e o)
 
--- all calls of one function were looked at
+-- once all calls of one function were looked at, `FoundUpTo` holds up to the next function
 pub found_row : (bodies : List (List PieceItem)) (f m : ℕ) (found : List Recursion) → f < length bodies → length bodies ≤ m → FoundUpTo bodies f m found → FoundUpTo bodies (f + 1) 0 found
 found_row bodies f m found lt le o = record {
   each = o.each;
@@ -226,7 +226,7 @@ found_all bodies f found le o = record {
   all = λ it cycle. (let short = few_calls bodies it cycle in let within = called_within bodies it.caller it.called cycle.calls in o.all it short.cycle short.few (inl (omega arith)));
 }
 
--- what the code asks about a function is asked about its items
+-- the items at a position are those of the piece at that position
 pub body_at : (ps : List (Bor Piece)) (at : ℕ) (d : Bor Piece) → at < length ps → d ≡ get_or ps at d → get_or (all_items (lent_pieces ps)) at [] ≡ d.now.items
 body_at [] at d lt is = absurd (omega arith)
 body_at (p ∷ ps) zero d lt is = ap (λ (b : Bor Piece). b.now.items) (sym is)

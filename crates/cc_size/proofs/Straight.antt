@@ -46,7 +46,7 @@ none_is h (x ∷ way) e = (let n = neither (eqb h x) (list_any (eqb h) way) e in
     neither false b e = (refl, e)
     neither true b e = absurd (let n : true ≡ false = e in cc)
 
--- what is left of a way once it has come to the function h
+-- what is left of a way after it has reached the function h
 pub record After (bodies : List (List PieceItem)) (h t : ℕ) : Type 0 where
   pub way : List ℕ
   pub leads : LeadsBy bodies way h t

@@ -8,7 +8,7 @@ use Rattle.cc_size.specs.declared.recursion.Recursion.{Recursion}
 abbrev pub DoesCall : (bodies : List (List PieceItem)) → (caller called : ℕ) → Type 0
 DoesCall bodies f g = Contains (get_or bodies f []) (Call g)
 
--- calls lead from a function to another through each function of the way in turn; the last one is the other function itself.
+-- calls lead from a function to another through each function of the way in turn; the last of them is the other function.
 -- Without a call, a function leads to itself
 abbrev pub LeadsBy : (bodies : List (List PieceItem)) → (way : List ℕ) → (from to : ℕ) → Type 0
 LeadsBy bodies [] f g = f ≡ g

@@ -1,4 +1,4 @@
-//! What a compiled unit takes: the words of its code, the frames of its functions, and a stack that is enough for it.
+//! What a compiled unit needs: the words of its code, the frames of its functions, and a stack that is enough for it.
 #![tactic(auto)]
 
 mod measuring;

@@ -1,4 +1,4 @@
-// Compiles a unit and measures what it takes.
+// Compiles a unit and measures what it needs.
 
 ghost use Rattle.std.specs.Prelude.{◌≡◌, Some, IfOk, IfErr, IfSome};
 ghost use Rattle.std.specs.Arc.{arc_value};
@@ -35,7 +35,7 @@ fn main_of(alloc: Global, unit: &TypedUnit) -> Result<usize, AllocError>
     Ok(lay_out(alloc, &mut elements, unit.externals())?.function(MAIN))
 }
 
-// What a unit with these pieces takes.
+// What a unit with these pieces needs.
 fn measured(
     alloc: Global,
     unit: &TypedUnit,
@@ -70,7 +70,7 @@ fn measured(
     })
 }
 
-// What a compiled text takes.
+// What a compiled text needs.
 fn size_of(alloc: Global, made: &Compilation) -> Result<UnitSize, AllocError>
     ensures { IfOk result (IsSize (source (arc_value made.now.typed)).externals made.now.pieces.items made.now.unit.image) }
 {
@@ -83,7 +83,7 @@ fn size_of(alloc: Global, made: &Compilation) -> Result<UnitSize, AllocError>
     )
 }
 
-/// Compiles a text in a mode, and measures what the unit takes. If a board backs the stack that is named, or more, the image
+/// Compiles a text in a mode, and measures what the unit needs. If a board backs the stack that is named, or more, the image
 /// follows, on every input, what the program shows in the mode.
 ///
 /// Refusals: those of `compile_in`.
@@ -101,8 +101,8 @@ pub fn size_in(alloc: Global, mode: Mode, text: &[u8]) -> Result<Sized, BuildFau
     }
 }
 
-/// The same for the unit of these three parts, made again by following its certificate. `None` if `audit_in` does not confirm the
-/// unit. Fails only if memory ran out.
+/// Measures what the unit of these three parts needs; the unit is made again by following its certificate. `None` if `audit_in`
+/// does not confirm the unit. Fails only if memory runs out.
 pub fn size_along_in(
     alloc: Global,
     mode: Mode,

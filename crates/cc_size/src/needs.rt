@@ -1,4 +1,4 @@
-// Tables over the functions of a unit: what each function takes together with the functions that it calls, as deep as calls may
+// Tables over the functions of a unit: what each function needs together with the functions that it calls, as deep as calls may
 // go.
 
 ghost use Rattle.std.specs.Prelude.{◌≡◌, ◌≤◌, ℕ, ◌∷◌, [], length, get_or, IfOk};
@@ -37,7 +37,7 @@ fn most_called(table: &[u32], items: &[PieceItem]) -> u32
     most
 }
 
-// The table if one more call may be open than in `table`. `own` has the bytes that each function takes of its own.
+// The table if one more call may be open than in `table`. `own` has the bytes that each function itself needs.
 fn deeper(
     alloc: Global,
     own: &[u32],
@@ -56,8 +56,8 @@ fn deeper(
     Ok(more)
 }
 
-/// The table of the most that a call of each function takes, if `calls` calls may be open, including that one. `own` has the
-/// bytes that each function takes of its own.
+/// The table of the most that a call of each function needs, if `calls` calls may be open, including that one. `own` has the
+/// bytes that each function itself needs.
 pub(crate) fn needs(
     alloc: Global,
     own: &[u32],

@@ -1,4 +1,4 @@
-// Which calls are part of a cycle of calls. For this, the functions are found from which calls lead to a function.
+// Which calls are part of a cycle of calls. To find them, the functions from which calls lead to a function are found.
 
 ghost use Rattle.std.specs.Prelude.{◌≡◌, ◌<◌, ◌+◌, ◌==◌, ◌&&◌, ◌||◌, ◌++◌, ℕ, false, length, get_or, IfOk, OnOk};
 ghost use Rattle.cc_link.specs.Linked.{all_items, lent_pieces};
@@ -69,7 +69,7 @@ fn call(function: usize, items: &[PieceItem]) -> bool
     false
 }
 
-// The table of the functions that are in `table`, and of those that call one of them.
+// The table of the functions that are in `table`, and of those that call one of these.
 fn nearer(alloc: Global, pieces: &[&Piece], table: &[bool]) -> Result<Vec<bool>, AllocError>
     requires { length table.now ≡ length pieces.now }
     ensures { IfOk result (λ more. more.items ≡ nearer (λ g. get_or table.now g false) table.now (all_items (lent_pieces pieces.now))) }

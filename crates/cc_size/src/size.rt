@@ -1,28 +1,28 @@
-// What functions and units take.
+// What functions and units need.
 
 use crate::recursion::Recursion;
 use cc_link::Compilation;
 
-/// What one function takes.
+/// What one function needs.
 #[derive(Clone, Copy)]
 pub struct FunctionSize {
     /// The words of the function's code.
     pub words: usize,
     /// The bytes of the function's frame.
     pub frame: u32,
-    /// The largest number of bytes of stack that a call of the function takes, together with the calls in it, as deep as calls may go.
+    /// The largest number of bytes of stack that a call of the function uses, together with the calls in it, as deep as calls may go.
     pub stack: u32,
     /// The length of the longest chain of calls that begins with a call of the function, including that call: at most 1,024,
     /// which is as deep as calls may go.
     pub calls: u32,
 }
 
-/// What a unit takes.
+/// What a unit needs.
 #[derive(Drop)]
 pub struct UnitSize {
     /// The unit's functions, in the order of definitions.
     pub functions: Vec<FunctionSize>,
-    /// The words of the function's code.
+    /// The words of the unit's code.
     pub code: usize,
     /// The bytes of the unit's globals.
     pub globals: usize,
@@ -34,7 +34,7 @@ pub struct UnitSize {
     pub stack: u32,
 }
 
-/// What a text was compiled to, and what it takes.
+/// What a text was compiled to, and what that needs.
 #[derive(Drop)]
 pub struct Sized {
     pub made: Compilation,

@@ -1,4 +1,4 @@
-// Tables with one entry for each function, given the functions' pieces in their order.
+// Tables with one entry for each function, given the pieces in the order of the functions.
 
 ghost use Rattle.std.specs.Prelude.{◌≡◌, ℕ, get_or, IfOk};
 ghost use Rattle.cc_emit.specs.Contract.{largest_frame};
@@ -41,7 +41,7 @@ pub(crate) fn entry(table: &[u32], function: usize) -> u32
     table.get(function).copied().unwrap_or(0)
 }
 
-/// What each function takes.
+/// What each function needs.
 pub(crate) fn sizes(
     alloc: Global,
     pieces: &[&Piece],

@@ -8,7 +8,7 @@ use Rattle.cc_sources.specs.Places.{begin_of, IsIn}
 use Rattle.cc_sources.specs.declared.place.TextPlace.{TextPlace}
 use Rattle.cc_sources.specs.declared.text.NamedText.{NamedText}
 
--- at which byte the next text begins
+-- the next text begins after this one and the newline that is added to it
 begin-next : (texts : List NamedText) (k : ℕ) (text : NamedText) (further : List NamedText) → drop k texts ≡ text ∷ further → begin_of texts (suc k) ≡ begin_of texts k + length (closed text further)
 begin-next [] zero text further e = absurd (cc)
 begin-next [] (suc k) text further e = absurd (cc)
@@ -29,7 +29,7 @@ few_of false some one = omega (arith, one)
 few_after : (bytes : List ℕ) → length (newline_after bytes) ≤ 1
 few_after bytes = few_of (lacks_newline bytes) (10 ∷ []) refl
 
--- the length of a text that has further ones after it
+-- a text that others follow contributes its bytes, and the newline that is added to it
 length-closed : (text : NamedText) (further : List NamedText) → 0 < length further → length (closed text further) ≡ length text.bytes.items + length (newline_after text.bytes.items)
 length-closed text [] some = absurd (omega (arith, some))
 length-closed text (next ∷ further) some = length-append text.bytes.items (newline_after text.bytes.items)
@@ -43,7 +43,7 @@ length-last text (next ∷ further) none = absurd (omega (arith, none))
 from_one : (texts : List NamedText) (k : ℕ) (text : NamedText) → k < length texts → text ≡ get_or texts k text → drop k texts ≡ text ∷ drop (suc k) texts
 from_one texts k text few is = drop-cons texts k text few ∙ ap (λ (t : NamedText). t ∷ drop (suc k) texts) (sym is)
 
--- one more text was added to the whole
+-- if one more text is appended, what was joined so far and the further texts still make up the whole
 pub one_more : (text : NamedText) (further : List NamedText) (old new all : List ℕ) → old ++ joined (text ∷ further) ≡ all → new ≡ old ++ closed text further → new ++ joined further ≡ all
 one_more text further old new all so_far is =
     ap (λ (l : List ℕ). l ++ joined further) is ∙ (append_assoc old (closed text further) (joined further) ∙ so_far)
@@ -71,7 +71,7 @@ within texts k at left text here is so_far inside (inl last) =
     omega (arith, all, rest, so_far, inside)
 within texts k at left text here is so_far inside (inr before) = omega (arith, before, few_after text.bytes.items)
 
--- the next text begins after the byte
+-- the next text, if there is one, begins after the byte
 before : (texts : List NamedText) (k at left : ℕ) (text : NamedText) → k < length texts → text ≡ get_or texts k text → at ≡ begin_of texts k + left
     → (suc k ≡ length texts) ⊎ (left < length text.bytes.items + length (newline_after text.bytes.items)) → suc k < length texts → at < begin_of texts (suc k)
 before texts k at left text here is so_far (inl last) more = absurd (omega (arith, last, more))
@@ -80,7 +80,7 @@ before texts k at left text here is so_far (inr inside) more =
     let begins = begin-next texts k text (drop (suc k) texts) (from_one texts k text here is) in
     omega (arith, begins, length-closed text (drop (suc k) texts) some, so_far, inside)
 
--- the place of the byte
+-- the byte is at the place that was found
 pub lies : (texts : List NamedText) (k at left : ℕ) (text : NamedText) (found : TextPlace) → k < length texts → text ≡ get_or texts k text → at ≡ begin_of texts k + left
     → (suc k ≡ length texts) ⊎ (left < length text.bytes.items + length (newline_after text.bytes.items))
     → found.number ≡ k → (left ≤ length text.bytes.items → found.at ≡ left) → found.at ≤ length text.bytes.items → found.place ≡ place_of text.bytes.items found.at

@@ -1,4 +1,4 @@
--- The whole that texts make, one after another.
+-- The whole: texts, joined one after another.
 use Rattle.std.specs.Prelude.{ℕ, ◌-◌, ◌==◌, Bool, false, not, if◌then◌else◌, List, [], ◌∷◌, ◌++◌, length, Option, Some, None, slice_get}
 use Rattle.cc_sources.specs.declared.text.NamedText.{NamedText}
 
@@ -20,7 +20,7 @@ abbrev pub closed : (text : NamedText) (further : List NamedText) → List ℕ
 closed text [] = text.bytes.items
 closed text (next ∷ further) = text.bytes.items ++ newline_after text.bytes.items
 
--- the whole: the texts one after another, each completed in this way
+-- the whole: the texts one after another, each completed by `closed`
 abbrev pub joined : List NamedText → List ℕ
 joined [] = []
 joined (text ∷ further) = closed text further ++ joined further

@@ -1,4 +1,4 @@
--- The whole that texts make, one after another.
+-- The whole: texts, joined one after another.
 pub mod Joined
 -- Which text a byte of the whole comes from.
 pub mod Places

@@ -21,6 +21,6 @@ mod text;
 pub use joining::join;
 pub use message::named_message;
 pub use place::{TextPlace, place_in};
-pub use reading::{INPUT, MOST_READ, NoText, NoTexts, read_text, read_texts};
+pub use reading::{INPUT, MOST_READ, NoText, NoTexts, read_named, read_text, read_texts};
 pub use telling::{Origin, tell_unread, write_diagnostic, write_name};
 pub use text::NamedText;

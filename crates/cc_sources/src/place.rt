@@ -48,8 +48,8 @@ fn found(bytes: &[u8], number: usize, at: usize) -> TextPlace
     }
 }
 
-/// Returns the place of a byte of the whole that texts make, or of its end. The newline between two texts counts as the end of
-/// the first. `None` if there is no text.
+/// Returns the place of a byte of the joined text, or of the joined text's end. The newline between two texts counts as the
+/// end of the first. `None` if there is no text.
 pub fn place_in(texts: &[NamedText], at: usize) -> Option<TextPlace>
     ensures { at ≤ length (joined texts.now) → IfSome result (λ found. IsIn texts.now at found) }
 {

@@ -1,6 +1,6 @@
 // Reading texts.
 
-ghost use Rattle.std.specs.Prelude.{◌≡◌, ◌≤◌, IfOk, vec_len};
+ghost use Rattle.std.specs.Prelude.{◌≡◌, ◌≤◌, IfOk, IfSome, take, vec_len};
 ghost use Rattle.cc_sources.specs.Reading.{IsTextOf};
 
 use super::text::NamedText;
@@ -34,16 +34,16 @@ impl From<AllocError> for NoText {
     }
 }
 
-/// Returns the bytes of a reader up to its end, or the first `MOST_READ` of them. Fails with `Unread` if a read fails, and with
+/// Returns the bytes of a reader up to its end, or the first `most` of them. Fails with `Unread` if a read fails, and with
 /// `OutOfMemory` if memory runs out.
-pub fn read_text<R: Read>(alloc: Global, reader: &mut R) -> Result<Vec<u8>, NoText>
-    ensures few { IfOk result (λ text. vec_len text ≤ MOST_READ) }
-    ensures text { IfOk result (λ text. IsTextOf (R.remaining reader.old) text.items) }
+fn read_most<R: Read>(alloc: Global, reader: &mut R, most: usize) -> Result<Vec<u8>, NoText>
+    ensures few { IfOk result (λ text. vec_len text ≤ most) }
+    ensures text { IfOk result (λ text. IfSome (R.remaining reader.old) (λ all. text.items ≡ take most all)) }
 {
     let mut text = Vec::new(alloc);
     let mut piece = [0u8; 4096];
-    while text.len() < MOST_READ {
-        let room = piece.len().min(MOST_READ - text.len());
+    while text.len() < most {
+        let room = piece.len().min(most - text.len());
         let count = match reader.read(&mut piece[..room]) {
             Ok(count) => count,
             Err(why) => return Err(NoText::Unread(why)),
@@ -56,18 +56,29 @@ pub fn read_text<R: Read>(alloc: Global, reader: &mut R) -> Result<Vec<u8>, NoTe
     Ok(text)
 }
 
-// Reads the file with a name, or standard input.
-fn read_named<R: Input, F: Files>(
+/// Returns the bytes of a reader up to its end, or the first `MOST_READ` of them. Fails with `Unread` if a read fails, and with
+/// `OutOfMemory` if memory runs out.
+pub fn read_text<R: Read>(alloc: Global, reader: &mut R) -> Result<Vec<u8>, NoText>
+    ensures few { IfOk result (λ text. vec_len text ≤ MOST_READ) }
+    ensures text { IfOk result (λ text. IsTextOf (R.remaining reader.old) text.items) }
+{
+    read_most(alloc, reader, MOST_READ)
+}
+
+/// Returns the bytes of the file with a name, or of standard input, or the first `most` of them. Fails with `Unread` if the system
+/// refuses to open the file or to read it, and with `OutOfMemory` if memory runs out.
+pub fn read_named<R: Input, F: Files>(
     rt: &R,
     files: &F,
     alloc: Global,
     name: &str,
+    most: usize,
 ) -> Result<Vec<u8>, NoText> {
     if name == INPUT {
-        return read_text(alloc, &mut rt.reader());
+        return read_most(alloc, &mut rt.reader(), most);
     }
     match File::open(files, name) {
-        Ok(mut file) => read_text(alloc, &mut file),
+        Ok(mut file) => read_most(alloc, &mut file, most),
         Err(why) => Err(NoText::Unread(why)),
     }
 }
@@ -86,7 +97,7 @@ fn named<R: Input, F: Files>(
     alloc: Global,
     name: &str,
 ) -> Result<NamedText, NoText> {
-    let bytes = read_named(rt, files, alloc, name)?;
+    let bytes = read_named(rt, files, alloc, name, MOST_READ)?;
     let name = String::from_str(alloc, name)?;
     Ok(NamedText { name, bytes })
 }

@@ -1,4 +1,4 @@
-// Reports about a text, with the names of the texts that it was made of.
+// Reports about a text, with the names of the texts from which it was joined.
 
 use super::message::named_message;
 use super::place::place_in;
@@ -79,7 +79,7 @@ fn write_at<W: Write>(
     writer.write_all(lines.strip_prefix(INPUT.as_bytes()).unwrap_or(lines))
 }
 
-// Writes a diagnostic about the whole that texts make.
+// Writes a diagnostic about the joined text.
 fn write_of_texts<W: Write>(
     alloc: Global,
     texts: &[NamedText],
@@ -98,9 +98,9 @@ fn write_of_texts<W: Write>(
     }
 }
 
-/// Writes a diagnostic of a text as `Diagnostic` does, such as `-:4:2: 'totl' is not declared`. If the text is made of others,
-/// the name, the line and the column are those of the text that has the place: `B.c:4:2: 'totl' is not declared`. Fails if the
-/// writer does or memory runs out; some lines may have been written then.
+/// Writes a diagnostic of a text as `Diagnostic` does, such as `-:4:2: 'totl' is not declared`. If the text was joined from
+/// others, the name, the line and the column are those of the text that contains the place: `B.c:4:2: 'totl' is not declared`.
+/// Fails if the writer does or memory runs out; some lines may have been written then.
 pub fn write_diagnostic<W: Write>(
     alloc: Global,
     text: &[u8],

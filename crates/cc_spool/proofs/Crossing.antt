@@ -1,5 +1,5 @@
--- A spool in memory may go to another thread if its scripts and the writers of its answers may; a spool in a folder may if its
--- handle for files may.
+-- A spool in memory may go to another thread if its scripts and the writers of its answers may; a spool in a folder may do so
+-- if its handle for files may.
 use denote.RattleType.{RattleType}
 use denote.Param.Send.{IsSend, sendable, recorded_send, struct_send}
 use denote.Builtin.{u32}
@@ -24,7 +24,7 @@ answered_send W t = search (sendable, crosses) depth 20
 end_send : IsSend (Option.the_row u32)
 end_send = search (sendable, crosses) depth 20
 
--- a script with the writer of its answer
+-- a script and the writer of its answer may go to another thread if each of them may
 job_send : (R W : RattleType) → IsSend R → IsSend W → IsSend (Tuple (R ∷ W ∷ []))
 job_send R W s t = search (sendable, crosses) depth 20
 

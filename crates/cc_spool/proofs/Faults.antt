@@ -20,12 +20,12 @@ use Rattle.cc_spool.proofs.Skipping.{at, byte_behind, bytes_read, from_there}
 abbrev IsOther : ℕ → Type 0
 IsOther byte = byte ≢ 10
 
--- P holds of an `if` when it holds of the branch that the test takes
+-- P holds of an `if` if it holds of the branch that is chosen
 either : {A : Type 0} (P : A → Type 0) (b : Bool) (x y : A) → (b ≡ true → P x) → (b ≡ false → P y) → P (if b then x else y)
 either P true x y so never = so refl
 either P false x y so never = never refl
 
--- ---- what was read since the last whole part, depending on the place to which it led
+-- ---- the text since the last whole part, depending on the place to which it led
 
 -- the text is a line and the beginning of the source that comes after it; `left` bytes of the source are still to come
 record IsIn (text : List ℕ) (left : ℕ) : Type 0 where
@@ -111,7 +111,7 @@ no_header_first : (byte : ℕ) (text : List ℕ) → byte ≢ 115 → NoHeader (
 no_header_first byte text other = λ more count h.
     let e : byte ∷ (text ++ more) ≡ codes "source " ++ h.digits = h.line_is in other (same_at [] byte (text ++ more) (codes "source ") h.digits e (omega arith))
 
--- no source comes after a line that has a byte other than a digit after its digits
+-- no source comes after a line in which a byte other than a digit follows the digits
 no_header_digits : (digits : List ℕ) (byte : ℕ) (text : List ℕ) → text ≡ codes "source " ++ digits → is_ascii_digit byte ≡ false → NoHeader (text ++ byte ∷ [])
 no_header_digits digits byte text is other = λ more count h.
     let e : codes "source " ++ (digits ++ byte ∷ more) ≡ codes "source " ++ h.digits =
@@ -231,7 +231,7 @@ length_on number byte text h on =
     (λ digit. ((one_digit_more text number byte h digit, on), tt))
     (λ other. ((no_header_digits h.digits byte text h.line_is other, on), tt))
 
--- a byte other than a newline leads to the place `there`
+-- if the byte is not a newline, it leads to the place `there`
 past_newline : (text : List ℕ) (byte : ℕ) → byte ≢ 10 → (here there : Place) → Onward text byte there → Onward text byte (if byte == 10 then here else there)
 past_newline text byte other here there on = either (Onward text byte) (byte == 10) here there (λ t. absurd (other (eqb-true byte 10 t))) (λ f. on)
 
@@ -251,13 +251,13 @@ step (Within left) text byte other line r = absurd line
 step Behind text byte other line r = absurd line
 step Broken text byte other line r = absurd line
 
--- ---- whatever is reported comes from a line or a source
+-- ---- every fault that is found comes from a line or a source
 
 abbrev Is : Option ℕ → Type 0
 Is None = ⊥
 Is (Some number) = Unit {0}
 
--- an answer that reports a fault still does with one more part before it
+-- if an answer reports a fault, it still does with one more part before it
 prepended : (part : Part) (answer : List ℕ) → IsPart part → TellsFault answer → TellsFault (part_text part ++ answer)
 prepended part answer is (inl h) = inl (record {
   parts = part ∷ h.parts;
@@ -281,7 +281,7 @@ short_no_header text short = λ count h.
     let some = h.some in
     omega (arith, ap (λ (l : List ℕ). length l) h.line_is, length-append (codes "source ") h.digits, short, some)
 
--- no source comes after a line if reading it led to no length
+-- no source comes after a line unless reading the line leads to a length
 no_length : (place : Place) (text : List ℕ) → IsLinePlace place → ((number : ℕ) → place ≢ Length number) → Reads place text → (count : ℕ) → ¬ IsHeader text count
 no_length (Fault n) text line never r = short_no_header text (let few = r.1 in omega (arith, ap (λ (l : List ℕ). length l) r.0, length-take n (codes "fault "), few))
 no_length (Number n) text line never r = λ count h.
@@ -475,7 +475,7 @@ found (byte ∷ bytes) Behind text = λ r told.
 found (byte ∷ bytes) Broken text = λ r told.
     subst TellsFault (append_assoc text (byte ∷ []) bytes) (found bytes Broken (text ++ byte ∷ []) (past_more text byte r) told)
 
--- ---- whatever lines and sources report is reported
+-- ---- every fault that lines and sources report is found
 
 told_some : (place : Place) (number : ℕ) → (m : ℕ) × (told_at place (Some number) ≡ Some m)
 told_some (Number n) number = (n, refl)
@@ -500,7 +500,7 @@ is_told lines some = either Is (is_within lines.place) (Some 55) lines.last (λ 
 is_cut : (lines : Lines) → is_within lines.place ≡ true → Is (last_told lines)
 is_cut lines within = either Is (is_within lines.place) (Some 55) lines.last (λ t. tt) (λ f. absurd (true≢false (sym within ∙ f)))
 
--- the bytes are read to the beginning of a line, whatever was reported before
+-- reading the bytes leads to the beginning of a line; some fault, or none, is then the last one reported
 abbrev Leads : (bytes : List ℕ) (last : Option ℕ) → Type 0
 Leads bytes last = (later : Option ℕ) × ((rest : List ℕ) → read_bytes (between last) (bytes ++ rest) ≡ read_bytes (between later) rest)
 
@@ -534,7 +534,7 @@ line_read (byte ∷ line) place last text plain is r =
       read = rest.read;
     }
 
--- a newline ends a line that says no length
+-- a newline ends a line that does not say a length
 newline : (place : Place) (last : Option ℕ) (rest : List ℕ) → IsLinePlace place → ((number : ℕ) → place ≢ Length number) → read_bytes (at place last) (10 ∷ rest) ≡ read_bytes (between last) rest
 newline (Fault n) last rest is never = refl
 newline (Number n) last rest is never = refl
@@ -591,7 +591,7 @@ header_plain line count h =
 length_no : (place : Place) (line : List ℕ) → ((count : ℕ) → ¬ IsHeader line count) → Reads place line → (number : ℕ) → place ≢ Length number
 length_no place line never r = λ number e. never number (subst (λ (p : Place). Reads p line) e r).0
 
--- a whole line is read, without its newline
+-- reading a whole line, without its newline, leads to another place within a line
 whole_line : (line : List ℕ) (last : Option ℕ) → All IsOther line → LeadsTo (Fault 0) last [] line
 whole_line line last plain = line_read line (Fault 0) last [] plain tt nothing_read
 

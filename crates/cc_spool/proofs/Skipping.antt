@@ -107,7 +107,7 @@ skipped source last few =
     ∙ (number_read (length source) rest last (omega arith)
     ∙ bytes_read source (10 ∷ []) last)))
 
--- the same for the result of making such a text
+-- if the text that was made is the framed source, a reader is in the same state after it as before it
 pub skips : {E : Type 0} (made : Result (Vec ℕ Global) E) (source : List ℕ) → length source ≤ 65536 → IfOk made (λ text. text.items ≡ framed source)
     → IfOk made (λ text. (last : Option ℕ) → read_bytes (between last) text.items ≡ between last)
 skips (Ok text) source few is = λ last. subst (λ (bytes : List ℕ). read_bytes (between last) bytes ≡ between last) (sym is) (skipped source last few)

@@ -6,13 +6,13 @@ use Rattle.cc_spool.specs.declared.lines.Place.{Place}
 use Rattle.cc_spool.specs.declared.lines.Place.TheVariants.{Fault, Number, Source, Length, Line, Within, Behind, Broken}
 use Rattle.cc_spool.specs.declared.lines.Lines.{Lines}
 
--- a source as an answer has it: the line `source LEN`, its LEN bytes, and a newline
+-- a source as it is written in an answer: the line `source LEN`, its LEN bytes, and a newline
 abbrev pub framed : List ℕ → List ℕ
 framed source = codes "source " ++ decimal (length source) ++ 10 ∷ source ++ 10 ∷ []
 
 -- ---- byte by byte
 
--- the number with one more digit, up to 32 bits
+-- the number with one more digit appended, or 4294967295 if that is less
 abbrev pub with_digit : (number byte : ℕ) → ℕ
 with_digit number byte = min (10 * number + (byte - 48)) 4294967295
 
@@ -42,12 +42,12 @@ place_behind (Number number) byte = if byte == 10 then Fault 0 else (if is_ascii
 place_behind (Source count) byte = if byte == 10 then Fault 0 else in_source count byte
 place_behind Line byte = if byte == 10 then Fault 0 else Line
 
--- the fault that was reported last: if the line read so far is the line for a fault, the one that it reports
+-- the fault that was reported last: that of the line being read, if it reports one
 abbrev pub told_at : Place → (last : Option ℕ) → Option ℕ
 told_at (Number number) last = Some number
 told_at place last = last
 
--- what was read, after one more byte
+-- the state after one more byte
 abbrev pub read_byte : Lines → (byte : ℕ) → Lines
 read_byte lines byte = let place = place_behind lines.place byte in record { place = place; last = told_at place lines.last }
 
@@ -57,6 +57,6 @@ read_bytes lines (byte ∷ bytes) = read_bytes (read_byte lines byte) bytes
 
 -- ---- what an answer reports
 
--- nothing was read, or all so far is whole; this fault was reported last
+-- nothing was read, or only whole lines and sources; this fault was reported last
 abbrev pub between : (last : Option ℕ) → Lines
 between last = record { place = Fault 0; last = last }

@@ -1,4 +1,4 @@
--- What serving says about the names of scripts.
+-- Which names a script may have.
 pub mod Names
 -- What a spool gave, and what it was handed.
 pub mod Spool
@@ -6,9 +6,9 @@ pub mod Spool
 pub mod Answer
 -- What an answer consists of, and whether it reports a fault.
 pub mod Parts
--- What a client learns about its script, and what was written of its answer.
+-- What became of a script that was left for a server, and how much of its answer was written.
 pub mod Submitted
--- For private contracts.
+-- Definitions for private contracts.
 pub mod internal
--- Worked answers, each by computation; no contract rests on them.
+-- Worked answers, each proved by computation; no contract rests on them.
 pub mod rows

@@ -1,9 +1,8 @@
--- What an answer consists of (lines, and sources, each after a line that says how many bytes it has), and whether it reports a
--- fault.
+-- What an answer consists of (lines, and sources, each after a line that says how many bytes it has), and whether it reports a fault.
 use Rattle.std.specs.Prelude.{◌≡◌, ◌≢◌, ◌⊎◌, ◌<◌, ℕ, min, All, List, [], ◌∷◌, ◌++◌, length, Option, Some, None, codes}
 use Rattle.std.specs.Str.Parse.{AllDigits, digits_value}
 
--- the line says that a source of this many bytes comes after it: `source` and a number, which counts up to 32 bits
+-- the line says that a source of this many bytes comes after it: `source` and a number, which counts as at most 4294967295
 pub record IsHeader (line : List ℕ) (count : ℕ) : Type 0 where
   pub digits : List ℕ
   pub some : 0 < length digits
@@ -28,7 +27,7 @@ abbrev pub AreParts : List Part → Type 0
 AreParts [] = Unit {0}
 AreParts (part ∷ parts) = IsPart part × AreParts parts
 
--- a newline comes after each line and each source, which may have any bytes
+-- the source, which may have any bytes, and a newline after it; nothing if there is no source
 abbrev pub source_text : Option (List ℕ) → List ℕ
 source_text None = []
 source_text (Some source) = source ++ 10 ∷ []

@@ -1,7 +1,7 @@
 -- What a spool gave, and what it was handed.
 use Rattle.std.specs.Prelude.{ℕ, List, Option}
 
--- a script that was taken: its bytes, and what the writer of its answer held then, if these are known
+-- a script that was taken: its bytes, and the contents of the writer of its answer at that time, if these are known
 pub record Taken : Type 0 where
   pub script : Option (List ℕ)
   pub begun : Option (List ℕ)
@@ -9,7 +9,7 @@ pub record Taken : Type 0 where
 abbrev pub taken_as : (script begun : Option (List ℕ)) → Taken
 taken_as script begun = record { script = script; begun = begun }
 
--- an answer that was handed over: what its writer holds, if that is known; and the number of the fault that ended its script, 51 to 54 or 61, if one did
+-- an answer handed over: its writer's contents, if known, and the number of the fault that ended its script (51 to 54, 61), if any
 pub record Delivered : Type 0 where
   pub answer : Option (List ℕ)
   pub end : Option ℕ

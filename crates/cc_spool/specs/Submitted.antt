@@ -1,4 +1,4 @@
--- What became of a script that was left for a server, and what was written of its answer.
+-- What became of a script that was left for a server, and how much of its answer was written.
 use Rattle.std.specs.Prelude.{◌≡◌, ℕ, List, Option, Result, Ok, Err}
 use Rattle.std.specs.Io.KnownBytes.{Appends}
 use Rattle.cc_spool.specs.Parts.{Tells}
@@ -11,8 +11,8 @@ pub record IsAnswered (old new : Option (List ℕ)) (told : Option ℕ) : Type 0
   pub written : Appends old new answer
   pub tells : Tells answer told
 
--- What the writer held before, and what it holds afterwards. If there is no answer it got nothing; if the answer was not read to
--- its end, it got the answer's first bytes. Only the writer knows what it got of an answer that could not be written.
+-- The contents of the writer before and after. If there is no answer, it got nothing; if the answer was not read to its end, it
+-- got the first bytes of the answer. If the answer could not be written, nothing is known about the writer.
 abbrev pub HasWritten : (old new : Option (List ℕ)) → Submission → Type 0
 HasWritten old new (Answered told) = IsAnswered old new told
 HasWritten old new NotTaken = new ≡ old
@@ -21,7 +21,7 @@ HasWritten old new (Unwritten name) = Unit {0}
 HasWritten old new (CutShort name why) = (begun : List ℕ) × Appends old new begun
 HasWritten old new (Lost name why) = new ≡ old
 
--- the same, if the script was left in the folder; if not, the writer got nothing
+-- `HasWritten`, if the script was left in the folder; if not, the writer got nothing
 abbrev pub HasWrittenIfOk : {E : Type 0} → (old new : Option (List ℕ)) → Result Submission E → Type 0
 HasWrittenIfOk old new (Ok submission) = HasWritten old new submission
 HasWrittenIfOk old new (Err why) = new ≡ old

@@ -12,7 +12,7 @@ use std::io::{self, BufWriter, Write};
 const ANSWER_BYTES: u64 = 16_777_216;
 
 /// An answer that is being written, of at most 16,777,216 bytes. After a write or a flush has been refused, all later ones are
-/// refused too: the file no longer has what was to be written.
+/// refused too, since the file then lacks bytes.
 #[derive(Drop)]
 pub struct AnswerFile {
     writer: BufWriter<File>,
@@ -23,7 +23,7 @@ pub struct AnswerFile {
 }
 
 impl AnswerFile {
-    /// An answer that is written to a new file.
+    /// A new answer, to be written to this file.
     pub(crate) fn new(alloc: Global, file: File) -> io::Result<AnswerFile>
         ensures room { IfOk result (λ answer. answer.left ≡ 16777216) }
         ensures fresh { IfOk result (λ answer. answer.is_refused ≡ false) }
@@ -44,7 +44,7 @@ impl AnswerFile {
         self.writer.get_ref().sync_all()
     }
 
-    /// How the lines of its script were answered, in turn.
+    /// How the lines of its script were answered, in order.
     pub(crate) fn words(&self) -> &[Word] {
         self.words.words()
     }

@@ -1,11 +1,11 @@
-// How each line of a script was answered. This is read from the line that ends each answer, while the answer is written.
+// How each line of a script was answered. As the answers are written, the last line of each shows this.
 
 use std::alloc::Global;
 
 /// At most this many bytes of a line matter.
 const LINE_BYTES: usize = 64;
 
-/// The last record of an image.
+/// The last record of an image, in Intel HEX.
 const LAST_RECORD: &[u8] = b":00000001FF";
 
 /// How a line was answered.
@@ -25,7 +25,7 @@ pub(crate) enum Word {
 pub(crate) struct AnswerWords {
     // The first bytes of the line that is being written, as far as they matter.
     line: Vec<u8>,
-    // How many bytes of a source, with its newline, are still to come.
+    // How many bytes of a source, including its newline, are still to come.
     within: u64,
     words: Vec<Word>,
     // Whether all words so far were kept.
@@ -68,7 +68,7 @@ fn word_of(line: &[u8]) -> Option<Word> {
     }
 }
 
-// How many bytes of a source come after a line, with the newline after them.
+// How many bytes the source after a line has, including the newline at its end.
 fn source_after(line: &[u8]) -> u64 {
     let mut words = line.split(|byte| *byte == b' ');
     if words.next().unwrap_or(b"") != b"source".as_slice() {
@@ -91,7 +91,7 @@ impl AnswerWords {
         }
     }
 
-    /// How the lines were answered, in turn.
+    /// How the lines were answered, in order.
     pub(crate) fn words(&self) -> &[Word] {
         self.words.as_slice()
     }

@@ -1,12 +1,12 @@
 // What waits in `new`, as all clients of one server know it.
 //
-// One client at a time looks through `new`. All clients take the names that this look found, the least first, each name once. A
-// look costs as much as `new` has entries, and anybody may put entries there that can't be claimed. So no look is made while
-// `new` is unchanged, and a name that could not be claimed is passed over for a time that doubles with each failure. Then it is
-// tried again without a look, after the names that were never tried; at most a fixed number of names a second is tried again. So
-// names that can't be claimed do not take more processor time the more there are of them, and a script waits for few of them. If
-// there are more names than are kept, and none of those kept could be claimed, the next look is for the names after them. So
-// names that can't be claimed hide no script.
+// One client at a time looks through `new`. All clients take the names that this look found, the least first, each name once. The
+// cost of a look grows with the number of entries of `new`, and anybody may put entries there that can't be claimed. So no look
+// is made while `new` is unchanged, and a name that could not be claimed is passed over for a time that doubles with each
+// failure. Then it is tried again without a look, after the names that were never tried; at most a fixed number of names a second
+// is tried again. So the processor time that is used does not grow with the number of names that can't be claimed, and while a
+// script waits, only a few of them are tried. If there are more names than are kept, and none of those kept could be claimed, the
+// next look is for the names after them. So names that can't be claimed never hide a script.
 
 use crate::claims::may_be_claimed;
 use crate::entries::Entry;
@@ -32,8 +32,8 @@ const MOST_PASS: u64 = 30;
 /// A look is made after this many seconds even if `new` is unchanged.
 const LOOK_AGAIN: u64 = 10;
 
-/// At most this many names that were passed over are tried again in one go; and the pause between two such goes, in seconds. All
-/// that are kept are tried again in less time than the longest pass.
+/// At most this many names that were passed over are tried again in one go. `AGAIN` is the pause between two goes, in seconds. So
+/// all names that are kept are tried again in less time than the longest pass.
 const MOST_AGAIN: usize = 5_000;
 
 const AGAIN: u64 = 1;
@@ -41,26 +41,26 @@ const AGAIN: u64 = 1;
 /// At most this many names are looked at to find whether a script waits.
 const MOST_LOOKED: usize = 64;
 
-/// A look is sure to see everything only if it begins more than this many seconds after the last change of `new`: a change within
-/// the clock's grain has the same time.
+/// A look is sure to see everything only if it begins more than this many seconds after the last change of `new`: two changes
+/// within the clock's grain have the same time.
 const GRAIN: u64 = 1;
 
-/// While `new` is unchanged, a look that possibly missed something is made again only after this many times as long as it took.
+/// While `new` is unchanged, a look that may have missed something is repeated only after this many times the time that it took.
 const REST: u32 = 16;
 
 /// A name that may be a script's.
 #[derive(Drop)]
 pub(crate) struct Candidate {
     pub(crate) name: String,
-    // How long it was passed over the last time, in seconds: 0 if it was not.
+    // How long it was passed over the last time, in seconds: 0 if it never was.
     passed: u64,
 }
 
 // A name that could not be claimed.
 #[derive(Drop)]
 struct Passed {
-    // The key by which it is found: each name of a look is searched among all of these, and numbers are faster to compare than
-    // names.
+    // The key by which it is found: each name that a look sees is searched for among all names passed over, and numbers are
+    // faster to compare than names.
     key: u64,
     name: String,
     // How long it is passed over, in seconds, and until when.
@@ -78,7 +78,7 @@ struct Look {
     changed: (i64, i64),
     // Whether it kept all that it saw.
     is_all: bool,
-    // Whether it began long enough after that change to have seen all; if not, when it is to be made again.
+    // Whether it began long enough after the last change of `new` to have seen everything; if not, when to look again.
     is_settled: bool,
     again: Instant,
 }
@@ -90,14 +90,14 @@ pub(crate) struct Board {
     waiting: Vec<Candidate>,
     // Names that were passed over for long enough, and are to be tried again now.
     again: Vec<Candidate>,
-    // Those that are passed over, ordered by key, and for one key by name.
+    // The names that are passed over, ordered by key, and by name among equal keys.
     passed: Vec<Passed>,
     // The names newly passed over since the last look.
     fresh: Vec<Passed>,
-    // The first moment at which a name that is passed over is to be tried again, and the last one at which some were.
+    // When the first of the names passed over is to be tried again, and when some were last tried again.
     next_try: Option<Instant>,
     tried: Option<Instant>,
-    // The name after which to look, if there were more names than are kept, and none of those could be claimed.
+    // The name after which to look, if there were more names than are kept, and none of those kept could be claimed.
     from: Option<String>,
     last: Option<Look>,
 }
@@ -112,7 +112,7 @@ fn key_of(name: &str) -> u64 {
 }
 
 impl Passed {
-    // Whether this name comes before or after a name that has this key.
+    // How this name compares with `name`, whose key is `key`.
     fn order(&self, key: u64, name: &str) -> Ordering {
         match self.key.cmp(&key) {
             Ordering::Equal => self.name.as_str().cmp(name),
@@ -138,12 +138,12 @@ fn first_try(passed: &[Passed]) -> Option<Instant> {
     first
 }
 
-// Moves names that are to be tried again now from `passed` to `again`, until `again` has `MOST_AGAIN`.
+// Moves names that are to be tried again now from `passed` to `again`, until `again` has `MOST_AGAIN` names.
 fn bring_back(passed: &mut Vec<Passed>, again: &mut Vec<Candidate>, alloc: Global, now: Instant) {
     for it in passed.iter_mut() {
         if again.len() < MOST_AGAIN && it.until <= now {
             let name = mem::replace(&mut it.name, String::new(alloc));
-            // If there is no memory for it, the next look finds it.
+            // If there is no memory for the name, the next look finds it.
             let _ = again.push(Candidate {
                 name,
                 passed: it.pass,
@@ -193,7 +193,8 @@ impl Board {
             };
             match may_be_claimed(layout, candidate.name.as_str()) {
                 Some(true) => {
-                    // There is room, since it was taken from there.
+                    // There is room, unless the candidate was taken from `again`. If there is then no memory for it, a later look
+                    // finds it.
                     let _ = self.waiting.push(candidate);
                     return Ok(true);
                 }
@@ -218,7 +219,7 @@ impl Board {
         };
         let until = now.checked_add(Duration::from_secs(pass)).unwrap_or(now);
         self.next_try = earlier(self.next_try, until);
-        // If there is no memory for it, it is tried at the next look.
+        // If there is no memory for the name, it is tried at the next look.
         let _ = self.fresh.push(Passed {
             key: key_of(name.as_str()),
             name,
@@ -228,7 +229,7 @@ impl Board {
         });
     }
 
-    // Whether names that were passed over are to be tried again.
+    // Whether it is time to retry names that were passed over.
     fn is_time_again(&self, now: Instant) -> bool {
         let has_rested = match self.tried {
             Some(tried) => AGAIN <= now.duration_since(tried).as_secs(),
@@ -259,7 +260,7 @@ impl Board {
         }
     }
 
-    // Whether a look may find what the last one did not.
+    // Whether a look might find something that the last one did not.
     fn is_due(&self, changed: (i64, i64), now: Instant) -> bool {
         let Some(last) = self.last else {
             return true;
@@ -269,7 +270,7 @@ impl Board {
         last.changed != changed || !last.is_all || has_rested || is_old
     }
 
-    // Looks through `new` if that may find something.
+    // Looks through `new` if that might find something.
     fn look_if_due(&mut self, layout: &FolderLayout, began: Instant) -> Result<(), Refusal> {
         let Some(found) = layout.look_at("new")? else {
             return Err(Refusal::NoFolder);
@@ -283,7 +284,7 @@ impl Board {
             Ok(seconds) => seconds.saturating_add(GRAIN) < now,
             Err(_) => true,
         };
-        // A look that is refused is made again.
+        // A look that is refused is repeated.
         self.last = None;
         self.look(layout)?;
         let ended = Instant::now(&layout.rt)?;
@@ -316,7 +317,7 @@ impl Board {
         Ok(())
     }
 
-    // Puts the names newly passed over among the others.
+    // Merges the names newly passed over into the others.
     fn merge(&mut self) -> Result<(), Refusal> {
         if !self.fresh.is_empty() {
             self.passed.append(&mut self.fresh)?;
@@ -329,7 +330,7 @@ impl Board {
         Ok(())
     }
 
-    // Reads the entries of `new`. The result is whether there are no more entries.
+    // Reads the entries of `new`. The result is whether all of them were read.
     fn read(&mut self, layout: &FolderLayout) -> Result<bool, Refusal> {
         let mut entries = layout.entries("new")?;
         for _ in 0..MOST_ENTRIES {
@@ -382,20 +383,20 @@ impl Board {
         Ok(())
     }
 
-    // Keeps the least of the names.
+    // Keeps only the `MOST_NAMES` least names.
     fn keep_least(&mut self) {
         self.waiting
             .sort_unstable_by(|a, b| a.name.as_str().cmp(b.name.as_str()));
         self.waiting.truncate(MOST_NAMES);
     }
 
-    // Forgets the names that are passed over and are gone, once all names were read.
+    // Once all names have been read, forgets the names passed over that are gone from `new`.
     fn forget(&mut self) {
         self.passed.retain(|it| it.is_seen);
         self.next_try = self.first_try();
     }
 
-    // The name after which to look if none of those that wait can be claimed; none if there are no others.
+    // The name after which to look if none of the waiting names can be claimed; none if fewer names wait than are kept.
     fn last_name(&self, alloc: Global) -> Result<Option<String>, Refusal> {
         match self.waiting.last() {
             Some(last) if self.waiting.len() == MOST_NAMES => {

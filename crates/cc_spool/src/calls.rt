@@ -1,6 +1,6 @@
 // The file system calls that the spool makes, each on a file named by its place in the folder.
 //
-// If a call is refused, its caller gets only a number, which is copied, and no path.
+// If a call is refused, its caller gets only a number, which can be copied, and not the path.
 
 use crate::entries::Entries;
 use crate::found::Found;
@@ -21,13 +21,13 @@ pub(crate) fn settle(file: &File) -> Result<(), Refusal> {
     Ok(())
 }
 
-/// Writes these bytes to a file, from this offset on.
+/// Writes these bytes to a file, at this offset.
 pub(crate) fn write_at(file: &File, bytes: &[u8], at: u64) -> Result<(), Refusal> {
     file.write_all_at(bytes, at)?;
     Ok(())
 }
 
-/// Reads bytes of a file from this offset on, as many as there is room for.
+/// Fills the room with the bytes of a file at this offset.
 pub(crate) fn read_at(file: &File, room: &mut [u8], at: u64) -> Result<(), Refusal> {
     file.read_exact_at(room, at)?;
     Ok(())
@@ -39,7 +39,7 @@ pub(crate) fn set_length(file: &File, bytes: u64) -> Result<(), Refusal> {
     Ok(())
 }
 
-/// Takes the lock of a file. The result is whether nobody else has it.
+/// Tries to lock a file. The result is false if somebody else has locked it.
 pub(crate) fn take_lock(file: &File) -> Result<bool, Refusal> {
     match file.try_lock() {
         Ok(()) => Ok(true),
@@ -48,7 +48,7 @@ pub(crate) fn take_lock(file: &File) -> Result<bool, Refusal> {
     }
 }
 
-/// Whether somebody has the lock of a file. The answer comes from a shared lock, which is released with the file.
+/// Whether somebody has locked a file. To find out, this takes a shared lock, which is released with the file.
 pub(crate) fn is_locked(file: &File) -> Result<bool, Refusal> {
     match file.try_lock_shared() {
         Ok(()) => Ok(false),
@@ -57,7 +57,7 @@ pub(crate) fn is_locked(file: &File) -> Result<bool, Refusal> {
     }
 }
 
-/// Sets a file's rights to these, whatever the process's mask takes from them.
+/// Sets a file's rights to these, regardless of the process's umask.
 pub(crate) fn set_file_rights(file: &File, rights: u32) -> Result<(), Refusal> {
     file.set_permissions(Permissions::from_mode(rights))?;
     Ok(())
@@ -141,12 +141,13 @@ impl FolderLayout {
         }
     }
 
-    /// Moves a script's file to another place. It replaces what is there.
+    /// Moves a script's file to another place, replacing whatever is there.
     pub(crate) fn rename(&self, name: &str, from: Place, to: Place) -> Result<(), Refusal> {
         self.rename_along(self.path_of(from, name), self.path_of(to, name))
     }
 
-    /// Also links a script's file to another place, under a name that may differ from its present one, if nothing has that name.
+    /// Links a script's file to another place as well, under a name that may differ from its present one, unless something has
+    /// that name already.
     pub(crate) fn link(
         &self,
         from: Place,
@@ -179,7 +180,7 @@ impl FolderLayout {
         self.look_along(self.part(part))
     }
 
-    /// What has the folder's name: if that is a link, the link itself and not what it leads to.
+    /// What is at the folder's path: if that is a link, the link itself and not what it leads to.
     pub(crate) fn look_at_name(&self) -> Result<Option<Found>, Refusal> {
         let path = self.path.as_str().trim_end_matches('/');
         let path = if path.is_empty() { "/" } else { path };
@@ -194,19 +195,19 @@ impl FolderLayout {
         }
     }
 
-    /// Opens a part for reading, a directory too.
+    /// Opens a part for reading, even if it is a directory.
     pub(crate) fn open_part(&self, part: &str) -> Result<File, Refusal> {
         self.open_along(OpenOptions::new().read(true), self.part(part))
     }
 
-    /// Opens `lock`, which exists: no file is made through a link in its place.
+    /// Opens `lock`, which must exist: no file is made through a link in its place.
     pub(crate) fn open_lock(&self) -> Result<File, Refusal> {
         let mut how = OpenOptions::new();
         how.read(true).write(true);
         self.open_along(&how, self.part("lock"))
     }
 
-    /// Makes a file in the folder itself, if nothing has its name, not even a link.
+    /// Makes a file in the folder itself, if nothing has that name yet, not even a link.
     pub(crate) fn make_part_file(&self, part: &str) -> Result<File, Refusal> {
         let mut how = OpenOptions::new();
         how.write(true).create_new(true).mode(0o600);
@@ -258,7 +259,7 @@ impl FolderLayout {
         Ok(())
     }
 
-    /// Gives a part another name.
+    /// Renames a part.
     pub(crate) fn rename_part(&self, from: &str, to: &str) -> Result<(), Refusal> {
         self.rename_along(self.part(from), self.part(to))
     }

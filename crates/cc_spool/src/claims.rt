@@ -1,10 +1,10 @@
-// How a script is claimed, and its answer handed over.
+// How a script is claimed, and how its answer is handed over.
 //
-// What a kill or a power cut left follows from the order of the calls. A claim: `cur/ID.answer` is made, which only one client
+// What a kill or a power cut leaves follows from the order of the calls. A claim: `cur/ID.answer` is made, which only one client
 // can do; the script is moved from `new` to `cur`; `cur` is synced, so that no power cut puts back a script that was partly run.
 // The end: the answer is synced and moved to `done`; then the script is removed from `cur`.
 //
-// An answer that can't be handed over is kept by the client that ran its script, and tried again.
+// An answer that can't be handed over is kept by the client that ran its script, which tries again later.
 //
 //     cur/ID  cur/ID.answer     what was left
 //       no    yes, empty        a claim that was not made
@@ -23,7 +23,7 @@ use crate::refusal::Refusal;
 use crate::script_file::ScriptFile;
 use std::fs::File;
 
-/// The lines of faults that the spool itself reports.
+/// The lines for the faults that the spool itself reports.
 pub(crate) const INTERRUPTED: &[u8] = b"fault 55 Interrupted\n";
 
 pub(crate) const UNWRITTEN: &[u8] = b"fault 54 WriteFault\n";
@@ -55,20 +55,20 @@ pub(crate) enum Ending {
     Whole,
     /// As nothing but the line for a fault.
     Line(Told),
-    /// As a start finds it: whether its script was claimed is not known, or an earlier server had begun it.
+    /// As a start finds it: either it is not known whether its script was claimed, or an earlier server had begun the script.
     Left,
 }
 
 /// The result of trying to claim a script.
 #[derive(Drop)]
 pub(crate) enum ClaimResult {
-    /// It is to be run.
+    /// The script is to be run.
     Begun(Claimed),
     /// It can't be run, and was answered with the line for a fault.
     Answered,
     /// Its answer could not be handed over.
     Kept(Ending),
-    /// It is gone: another has it, or its client took it back.
+    /// It is gone: another client has it, or whoever left it took it back.
     Gone,
     /// It is not a regular file, an earlier script with its name has not ended, or it can't be answered.
     Left,
@@ -114,7 +114,7 @@ fn move_claimed(layout: &FolderLayout, name: &str) -> Move {
     if layout.rename(name, Place::Waiting, Place::Claimed).is_ok() {
         return Move::Made;
     }
-    // Over a network a call may succeed although its answer is lost.
+    // Over a network, a call may succeed although its reply is lost.
     match layout.look(Place::Claimed, name) {
         Ok(Some(_)) => Move::Made,
         Ok(None) => Move::NotMade,
@@ -136,8 +136,8 @@ fn open_claimed(layout: &FolderLayout, name: &str) -> Result<File, Told> {
     }
 }
 
-// Writes the line for a fault over what an answer had. This needs no more room, and a kill leaves an answer that begins with that
-// line.
+// Writes the line for a fault over the beginning of an answer, and cuts off the rest. This needs no more room, and a kill leaves
+// an answer that begins with that line.
 fn write_line(file: &File, told: Told) -> Result<(), Refusal> {
     let line = told.line();
     write_at(file, line, 0)?;
@@ -196,7 +196,7 @@ pub(crate) fn claim(layout: &FolderLayout, name: &str) -> ClaimResult {
     let Ok(file) = layout.make(Place::Answer, name) else {
         return ClaimResult::Left;
     };
-    // Before it was made, another client may have handed an answer over.
+    // Before this file was made, another client may have handed an answer over.
     match move_claimed(layout, name) {
         Move::Made => begin(layout, name, file),
         Move::NotMade => {
@@ -211,13 +211,13 @@ pub(crate) fn claim(layout: &FolderLayout, name: &str) -> ClaimResult {
     }
 }
 
-// Whether an answer that could not be moved is gone from `cur` all the same. Over a network a call may succeed although its
-// answer is lost, and nobody else takes files out of `cur`.
+// Whether an answer that could not be moved is gone from `cur` all the same. Over a network, a call may succeed although its
+// reply is lost, and nobody else takes files out of `cur`.
 fn is_gone(layout: &FolderLayout, name: &str) -> bool {
     layout.is_free(Place::Answer, name) && layout.must_be_held().is_ok()
 }
 
-/// Moves an answer that is whole to `done`, and removes the claim afterwards.
+/// Moves a complete answer to `done`, then removes the claim.
 pub(crate) fn hand_over(layout: &FolderLayout, name: &str) -> Result<(), Refusal> {
     if let Err(refusal) = layout.rename(name, Place::Answer, Place::Done)
         && !is_gone(layout, name)
@@ -229,7 +229,7 @@ pub(crate) fn hand_over(layout: &FolderLayout, name: &str) -> Result<(), Refusal
     Ok(())
 }
 
-/// Replaces what an answer had with only the line for a fault.
+/// Replaces the contents of an answer with only the line for a fault.
 pub(crate) fn write_fault(layout: &FolderLayout, name: &str, told: Told) -> Result<(), Refusal> {
     let file = layout.open_to_write(Place::Answer, name)?;
     write_line(&file, told)

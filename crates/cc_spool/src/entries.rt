@@ -5,14 +5,14 @@ use std::alloc::Global;
 use std::fs::ReadDir;
 use std::io;
 
-/// The entries of a part, in no order.
+/// The entries of a part, in no particular order.
 #[derive(Drop)]
 pub(crate) struct Entries {
     alloc: Global,
     entries: ReadDir,
 }
 
-/// The next item of the entries of a part.
+/// What the next entry of a part is.
 #[derive(Drop)]
 pub(crate) enum Entry {
     Named(String),

@@ -4,7 +4,7 @@ ghost use Rattle.std.specs.Prelude.{◌≤◌};
 
 use thiserror::Error;
 
-/// Why a folder can't be used as a spool, or a script in it has no answer that is whole.
+/// Why a folder can't be used as a spool, or why a script in it has no complete answer.
 #[derive(Clone, Copy, Debug, Drop, Error)]
 pub enum SpoolFault {
     /// 55: the server ended while it ran the script.

@@ -30,7 +30,7 @@ pub(crate) struct Found {
 }
 
 impl Found {
-    /// What the spool asks for, among what the system reports.
+    /// The facts that the spool asks for, among all that the system reports.
     pub(crate) fn of(told: &Metadata) -> Found {
         Found {
             device: told.dev(),
@@ -45,7 +45,7 @@ impl Found {
         }
     }
 
-    /// The same for an open file.
+    /// What a look at an open file finds.
     pub(crate) fn of_file(file: &File) -> Result<Found, Refusal> {
         let told = file.metadata()?;
         Ok(Found::of(&told))
@@ -71,7 +71,7 @@ impl Found {
         (self.seconds, self.nanoseconds) < (other.seconds, other.nanoseconds)
     }
 
-    /// Whether two looks found one file.
+    /// Whether two looks found the same file.
     pub(crate) fn is_same(&self, other: &Found) -> bool {
         self.device == other.device && self.number == other.number
     }

@@ -1,4 +1,4 @@
-// How an answer has a source: the line `source LEN`, the LEN bytes and a newline.
+// How a source is written in an answer: the line `source LEN`, the LEN bytes and a newline.
 
 ghost use Rattle.std.specs.Prelude.{◌≡◌, ◌≤◌, ℕ, Option, length, IfOk, IfSome};
 ghost use Rattle.cc_spool.specs.Answer.{between, framed, read_bytes};
@@ -27,7 +27,7 @@ fn written(alloc: Global, source: &[u8]) -> Result<Vec<u8>, AllocError>
 pub fn frame(alloc: Global, source: &[u8]) -> Result<Vec<u8>, AllocError>
     requires { length source.now ≤ 65536 }
     ensures framed { IfOk result (λ text. text.items ≡ framed source.now) }
-    // A reader is in the same state after the answer as before it: no line within it counts.
+    // A reader is in the same state after this text as before it: no line within the text counts.
     ensures skipped { IfOk result (λ text. (last : Option ℕ) → read_bytes (between last) text.items ≡ between last) }
 {
     written(alloc, source)

@@ -1,11 +1,11 @@
 // What a server keeps in `done`, and for how long.
 //
-// Answers that nobody removed are removed after some days. If all of them together take more room than they may, the oldest are
-// removed earlier, but none that is younger than ten minutes, since its client may be about to read it. While these younger ones
-// take more than all may take, no script is claimed. So nobody can fill the disk with scripts that have large answers.
+// Answers that nobody removed are removed after some days. If all of them together take more room than allowed, the oldest are
+// removed earlier, but none that is younger than ten minutes, since its client may be about to read it. While the younger answers by
+// themselves take more room than allowed, no script is claimed. So nobody can fill the disk with scripts that have large answers.
 //
-// How much they take is counted as answers are handed over, and determined again by each look through `done`. A file counts as a
-// number of blocks.
+// How much room they take is counted as answers are handed over, and determined again by each look through `done`. A file counts as
+// a whole number of blocks.
 
 use crate::entries::Entry;
 use crate::layout::FolderLayout;
@@ -14,14 +14,14 @@ use crate::place::Place;
 use crate::refusal::Refusal;
 use std::time::Instant;
 
-/// How many bytes a block has.
+/// The size of a block in bytes.
 const BLOCK: u64 = 4096;
 
 /// How old an answer has to be before it is removed to make room, in seconds.
 const LEAST_AGE: i64 = 600;
 
-/// The time between two clearings of answers, in seconds; and the same while those that may not be removed yet take more room than
-/// they may.
+/// The time between two clearings of answers, in seconds. `EACH_IF_FULL` is this time while the answers that may not be removed yet
+/// take more room than allowed.
 const EACH: u64 = 3600;
 
 const EACH_IF_FULL: u64 = 10;
@@ -37,7 +37,7 @@ pub struct Limits {
     pub bytes: u64,
     /// Whether nothing is reported on standard error.
     pub is_quiet: bool,
-    /// How many seconds a script may be at work while others wait.
+    /// How many seconds a script may run while others wait.
     pub patience: u32,
     /// How many clients the server has.
     pub clients: usize,
@@ -58,13 +58,13 @@ pub(crate) struct Keeping {
     limits: Limits,
     // When they were cleared last.
     cleared: Option<Instant>,
-    /// Whether the answers that may not be removed yet take more room than they may.
+    /// Whether the answers that may not be removed yet take more room than allowed.
     pub(crate) is_full: bool,
     // Whether that was reported.
     is_told: bool,
 }
 
-/// How many bytes the blocks of a file of this many bytes take: one block at least.
+/// How many bytes the blocks of a file of this many bytes take: at least one block.
 pub(crate) fn taken_by(bytes: u64) -> u64 {
     bytes.div_ceil(BLOCK).max(1).saturating_mul(BLOCK)
 }
@@ -79,16 +79,16 @@ impl Keeping {
         }
     }
 
-    /// Clears answers if it is time, or if `taken`, the bytes that they take, is more than is allowed. The result is how many
-    /// bytes are left then; none if nothing was looked at.
+    /// Clears answers if it is time, or if `taken`, the bytes that they take, is more than allowed. The result is how many bytes
+    /// they take afterwards; none if nothing was looked at.
     pub(crate) fn clear_if_due(
         &mut self,
         layout: &FolderLayout,
         taken: u64,
     ) -> Result<Option<u64>, Refusal> {
         let now = Instant::now(&layout.rt)?;
-        // Once the count says that they take too much, they are looked at immediately. After that, while those that may not be
-        // removed yet take too much, they are looked at only now and again.
+        // Once the count says that the answers take too much room, they are looked at immediately. After that, while those that may
+        // not be removed yet take too much, they are looked at only from time to time.
         let each = if taken <= self.limits.bytes {
             EACH
         } else if self.is_full {
@@ -96,7 +96,7 @@ impl Keeping {
         } else {
             0
         };
-        // If they were never counted, they are counted now.
+        // If the answers were never counted, they are counted now.
         if let Some(cleared) = self.cleared
             && now.duration_since(cleared).as_secs() < each
         {
@@ -116,8 +116,8 @@ impl Keeping {
         is_new && !self.limits.is_quiet
     }
 
-    // Removes the answers that are too old, and, while the others take too much, the oldest of those that may be removed. The result
-    // is how many bytes are left.
+    // Removes the answers that are too old and, while the others take too much room, the oldest of those that may be removed. The
+    // result is how many bytes the remaining answers take.
     fn clear(&self, layout: &FolderLayout) -> Result<u64, Refusal> {
         layout.must_be_held()?;
         let now = i64::try_from(since_1970(&layout.rt)?.as_secs()).unwrap_or(0);

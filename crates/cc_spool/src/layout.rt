@@ -58,7 +58,7 @@ pub struct FolderLayout {
     pub(crate) common: Arc<Common>,
 }
 
-/// What all clients of one server know about its folder. They take the board, and the log, without waiting for either.
+/// What all clients of one server know about its folder. A client that finds the board or the log taken does not wait for it.
 #[derive(Drop)]
 pub(crate) struct Common {
     pub(crate) board: Mutex<Board>,
@@ -69,13 +69,13 @@ pub(crate) struct Common {
     // How many scripts were begun, and how many clients are running one.
     begun: AtomicU64,
     busy: AtomicU64,
-    // How many clients have a number, and the number of the client that is to end its script for one that waits, or 0.
+    // How many clients have a number, and the number of the client that is to end its script for a waiting script, or 0.
     numbered: AtomicU64,
     leaving: AtomicU64,
     // How many clients there are, and how many seconds one may run a script while others wait.
     clients: u64,
     patience: u64,
-    // Whether the answers in `done` that may not be removed yet take more than they may. Until they are counted, this is true.
+    // Whether the answers in `done` that may not be removed yet take more room than allowed. Until they are counted, this is true.
     is_full: AtomicBool,
     // Whether the folder could not be used for a while.
     is_lost: AtomicBool,
@@ -88,13 +88,13 @@ pub struct Held {
 }
 
 impl FolderLayout {
-    /// The folder at this path, whether or not it is there, as a client has it. If others may not write to its `new`, the folder is a
-    /// group's.
+    /// The folder at this path, whether or not it is there, as a client sees it. If others may not write to its `new`, the folder is
+    /// a group's.
     pub fn new(rt: HostRuntime, alloc: Global, path: &str) -> Result<FolderLayout, AllocError> {
         FolderLayout::for_server(rt, alloc, path, ALL)
     }
 
-    /// The folder at this path, as a server with these limits has it.
+    /// The folder at this path, as a server with these limits sees it.
     pub fn for_server(
         rt: HostRuntime,
         alloc: Global,
@@ -156,12 +156,12 @@ impl FolderLayout {
         self.file_rights == GROUP_FILE
     }
 
-    /// Takes the folder for this server, until what is returned is released. None if another server held it for a whole second.
+    /// Takes the folder for this server, until the returned lock is released. None if another server held it for a whole second.
     pub(crate) fn lock(&self) -> Result<Option<Held>, Refusal> {
         let file = match self.look_at("lock")? {
             Some(found) if !found.is_file() => return Err(Refusal::NoLock),
             Some(_) => self.open_lock()?,
-            // Another server may have made it just now.
+            // Another server may have made the file just now.
             None => match self.make_part_file("lock") {
                 Ok(file) => file,
                 Err(_) => self.open_lock()?,
@@ -193,7 +193,7 @@ impl FolderLayout {
         }
     }
 
-    /// Whether a server holds the folder. The answer comes from a shared lock, which is released at once.
+    /// Whether a server holds the folder. To find out, this takes a shared lock, which is released at once.
     pub(crate) fn is_held(&self) -> Result<bool, Refusal> {
         match self.look_at("lock") {
             Ok(Some(found)) if found.is_file() => {
@@ -209,7 +209,7 @@ impl FolderLayout {
         self.common.is_lost.load(Ordering::SeqCst)
     }
 
-    /// Reports to all that have this folder that it could not be used for a while.
+    /// Notes, for all clients of this folder, that it could not be used for a while.
     pub(crate) fn give_up(&self) {
         self.common.is_lost.store(true, Ordering::SeqCst);
     }
@@ -229,12 +229,12 @@ impl FolderLayout {
         self.common.taken.store(bytes, Ordering::SeqCst);
     }
 
-    /// Whether the answers in `done` that may not be removed yet take more than they may.
+    /// Whether the answers in `done` that may not be removed yet take more room than allowed.
     pub(crate) fn is_full(&self) -> bool {
         self.common.is_full.load(Ordering::SeqCst)
     }
 
-    /// Notes whether the answers in `done` that may not be removed yet take more than they may.
+    /// Notes whether the answers in `done` that may not be removed yet take more room than allowed.
     pub(crate) fn set_full(&self, is_full: bool) {
         self.common.is_full.store(is_full, Ordering::SeqCst);
     }
@@ -264,18 +264,18 @@ impl FolderLayout {
         before.saturating_add(1)
     }
 
-    /// Whether a client is to end its script for one that waits.
+    /// Whether this client is to end its script for a waiting script.
     pub(crate) fn is_leaving(&self, client: u64) -> bool {
         self.common.leaving.load(Ordering::SeqCst) == client
     }
 
-    /// Whether no client is to end its script for one that waits.
+    /// Whether no client is to end its script for a waiting script.
     pub(crate) fn is_none_leaving(&self) -> bool {
         self.common.leaving.load(Ordering::SeqCst) == 0
     }
 
-    /// Notes that a client is to end its script for one that waits. The caller has the board, so this is done for one client at a
-    /// time.
+    /// Notes that a client is to end its script for a waiting script. The caller has the board, so only one client at a time is
+    /// noted.
     pub(crate) fn leave(&self, client: u64) {
         self.common.leaving.store(client, Ordering::SeqCst);
     }
@@ -285,7 +285,7 @@ impl FolderLayout {
         self.common.clients <= self.common.busy.load(Ordering::SeqCst)
     }
 
-    /// How many seconds a script may be at work while others wait.
+    /// How many seconds a script may run while others wait.
     pub(crate) fn patience(&self) -> u64 {
         self.common.patience
     }
@@ -312,8 +312,8 @@ impl FolderLayout {
         }
     }
 
-    /// Withdraws a request for an earlier server to end: a `stop` that was made before this start made the file `begun`. One that
-    /// was made since is for this server.
+    /// Withdraws a request for an earlier server to end: a `stop` that was made before this start made the file `begun`. A `stop`
+    /// that was made later is for this server.
     pub(crate) fn take_old_stop_back(&self, begun: &Found) -> Result<(), Refusal> {
         match self.look_at("stop")? {
             Some(found) if found.is_older(begun) => self.take_stop_back(),
@@ -321,7 +321,7 @@ impl FolderLayout {
         }
     }
 
-    /// Syncs the names of a part.
+    /// Syncs the names in a part.
     pub(crate) fn sync_part(&self, part: &str) -> Result<(), Refusal> {
         let part = self.open_part(part)?;
         settle(&part)
@@ -339,15 +339,15 @@ impl FolderLayout {
         {
             return Err(refusal);
         }
-        // Otherwise a power cut could lose a script that waits. If it is refused, the script waits all the same.
+        // Otherwise a power cut could lose a script that waits. If the sync is refused, the script waits all the same.
         let _ = self.sync_part("new");
         // If the old name stays, the file has two: the new one counts.
         let _ = self.remove(Place::Written, written);
         Ok(())
     }
 
-    // Whether a script is in `new` though the call that put it there was refused: over a network a call may succeed although its
-    // answer is lost. If its name there is gone by then, the file has its second name in `cur`: a server has claimed it.
+    // Whether a script is in `new` though the call that put it there was refused: over a network, a call may succeed although its
+    // reply is lost. If its name there is gone by then, the file has its second name in `cur`: a server has claimed it.
     fn is_published(&self, written: &str, name: &str) -> bool {
         match (
             self.look(Place::Written, written),
@@ -371,7 +371,7 @@ impl FolderLayout {
         format!(in self.alloc; "{path}/{part}/{name}{ending}")
     }
 
-    /// The user who owns `cur`: the server's. An `Err` if the folder is gone, or can't be looked at.
+    /// The user who owns `cur`, which is the server's user. An `Err` if the folder is gone, or can't be looked at.
     pub(crate) fn server(&self) -> Result<u32, Refusal> {
         match self.look_at("cur")? {
             Some(found) => Ok(found.user),
@@ -387,7 +387,7 @@ impl FolderLayout {
 }
 
 impl Held {
-    /// Gives `lock` the rights of the folder's files. If it belongs to another user, it keeps its own.
+    /// Gives `lock` the rights of the folder's files. A `lock` that belongs to another user keeps its rights.
     pub(crate) fn open_to_clients(&self, rights: u32) {
         let _ = self.file.set_permissions(Permissions::from_mode(rights));
     }

@@ -2,12 +2,13 @@
 //!
 //! `spool` is what serving needs from a spool, `memory` a spool in memory, `folder` one in a folder in which clients of other
 //! processes leave scripts and find their answers. `layout` has the parts of the folder, `place` the places of a script's files
-//! in them, `calls` the system's calls on these, `found` and `entries` what such a call reports, `refusal` why one is refused.
-//! `rights` makes the parts, `names` says which files are taken, `board` which of them are to be tried, `keeping` how many
-//! answers stay. `claims` has how a script is claimed and answered, `answer` the file that its answer is written to, `recovery`
-//! what a server that was killed left. `submission` has how a client leaves a script and waits for its answer, `lines` which
-//! fault the answer reports, `framing` how a source is written in it, `fault` why one of these is refused. `log` has who did
-//! what: `script_file` has the lines of a script as it is read, `answer_words` how each was answered.
+//! in them, `calls` the system calls on these files, `found` and `entries` what such a call reports, `refusal` why a call is
+//! refused. `rights` makes the parts, `names` says which files are taken, `board` which of them are to be tried, `keeping` how
+//! many answers are kept. `claims` says how a script is claimed and answered, `answer` has the file that its answer is written
+//! to, `recovery` what becomes of the files that a killed server left. `submission` says how a client leaves a script and waits
+//! for its answer, `lines` which fault the answer reports, `framing` how a source is written in it, `fault` why a folder or a
+//! script is refused. `log` records who did what: `script_file` keeps the lines of a script as it is read, `answer_words` how
+//! each was answered.
 //!
 //! The crate knows nothing about libraries. It uses only the history of `cc_disk`, which only contracts read. The only handles
 //! that it needs are those for files and the clock. It exports `Spool`, `MemorySpool` and `Answered`; `FolderSpool`,

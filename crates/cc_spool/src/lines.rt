@@ -1,7 +1,7 @@
-// Which fault an answer reports, read in pieces as they come.
+// Which fault an answer reports. The answer is read in pieces as they come.
 //
-// An answer has lines, and sources between them: the line `source LEN` is followed by LEN bytes, whatever they are, and a
-// newline. No fault is read from these bytes. If the answer ends within them, it was interrupted.
+// An answer has lines, and sources between them: the line `source LEN` is followed by any LEN bytes and a newline. No
+// fault is read from these bytes. If the answer ends within them, it was interrupted.
 
 ghost use Rattle.std.specs.Prelude.{◌≡◌, ◌↔◌, ◌<◌, ◌≤◌, None, IsTrue};
 ghost use Rattle.cc_spool.specs.Answer.{between, in_fault, in_source, place_behind, read_byte, read_bytes, with_digit};
@@ -17,14 +17,14 @@ const SOURCE: [u8; 7] = *b"source ";
 /// The fault that an answer reports if it ends within a source.
 const INTERRUPTED: u32 = 55;
 
-// The place of the next byte.
+// The place of the next byte in an answer.
 #[derive(Clone, Copy, Drop)]
 enum Place {
-    // After this many bytes of the beginning of a fault's line. After 0 bytes, this is the beginning of any line.
+    // After this many bytes of `fault ` at the beginning of a line. 0 is the beginning of any line.
     Fault(usize),
     // In the number of a fault, with this value so far.
     Number(u32),
-    // After this many bytes of the beginning of a line after which a source comes.
+    // After this many bytes of `source ` at the beginning of a line.
     Source(usize),
     // In the number of the source's bytes, with this value so far.
     Length(u32),
@@ -32,13 +32,13 @@ enum Place {
     Line,
     // In a source; this many of its bytes are left.
     Within(u32),
-    // After a source: a newline comes.
+    // After a source: a newline comes next.
     Behind,
     // After a source that was followed by a byte other than a newline: nothing that follows is reported.
     Broken,
 }
 
-// A number with one more digit, which stops at the largest value.
+// A number with one more digit appended, or the largest value if that is exceeded.
 fn with_digit(number: u32, byte: u8) -> u32
     requires { (48 ≤ byte) × (byte ≤ 57) }
     ensures { result ≡ with_digit number byte }
@@ -48,7 +48,7 @@ fn with_digit(number: u32, byte: u8) -> u32
         .saturating_add(u32::from(byte - b'0'))
 }
 
-// The place after a byte other than a newline, when this many bytes of the beginning of a fault's line were read.
+// The place after a byte other than a newline, when this many bytes of `fault ` were read.
 fn in_fault(count: usize, byte: u8) -> Place
     ensures { result ≡ in_fault count byte }
 {
@@ -65,7 +65,7 @@ fn in_fault(count: usize, byte: u8) -> Place
     }
 }
 
-// The same for a line after which a source comes.
+// The place after a byte other than a newline, when this many bytes of `source ` were read.
 fn in_source(count: usize, byte: u8) -> Place
     ensures { result ≡ in_source count byte }
 {
@@ -108,7 +108,7 @@ impl Place {
     }
 }
 
-/// What was read of an answer so far.
+/// What is known about an answer from the bytes read so far.
 #[derive(Clone, Copy, Drop)]
 pub(crate) struct Lines {
     place: Place,
@@ -145,14 +145,14 @@ impl Lines {
         }
     }
 
-    /// Whether what was read ends with a line or a source, or nothing was read.
+    /// Whether the bytes read so far end with a whole line or source, or no byte has been read.
     pub(crate) fn is_between(&self) -> bool
         ensures { IsTrue result ↔ (self.now.place ≡ place.Fault 0) }
     {
         matches!(self.place, Place::Fault(0))
     }
 
-    /// Whether what was read ends within a source.
+    /// Whether the bytes read so far end within a source.
     pub(crate) fn is_within(&self) -> bool
         ensures { result ≡ is_within self.now.place }
     {

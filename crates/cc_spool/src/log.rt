@@ -1,8 +1,8 @@
-// Who did what, and when: a file in the folder that only the server writes.
+// Who did what, and when: a file in the folder to which only the server writes.
 //
 // A line has the time in seconds since 1970, the user who owns the script's file, a line of the script, and how that was answered.
-// Each server begins a new file before its first line, and again when a file has 16 MiB; 16 old ones are kept. Nothing waits for
-// the log, and nothing depends on it: if it can't be written, only this server's log ends.
+// Each server begins a new file before its first line, and whenever a file reaches 16 MiB; 16 old files are kept. Nothing waits
+// for the log, and nothing depends on it: if it can't be written, only this server's log ends.
 
 use crate::answer_words::Word;
 use crate::calls::{set_file_rights, write_at};
@@ -13,7 +13,7 @@ use std::alloc::AllocError;
 use std::fmt::Write;
 use std::fs::File;
 
-/// The name of the file; an old one has a number after it, the newest 1.
+/// The name of the file. An old file has a number after this name; the newest has 1.
 const LOG: &str = "log";
 
 /// How many bytes a file may have, and how many old ones are kept.
@@ -30,7 +30,7 @@ pub(crate) struct Log {
     // The file that this server began, and how many bytes it has.
     file: Option<File>,
     bytes: u64,
-    // Whether it could not be written: then nothing more is written.
+    // Whether a write failed, after which nothing more is written.
     is_over: bool,
 }
 
@@ -39,7 +39,7 @@ fn old_name(layout: &FolderLayout, number: u32) -> Result<String, AllocError> {
     format!(in layout.alloc; "{LOG}.{number}")
 }
 
-// Gives a file another name, if it is there.
+// Renames a file, if it exists.
 fn shift(layout: &FolderLayout, from: &str, to: &str) -> Result<(), Refusal> {
     match layout.rename_part(from, to) {
         Err(refusal) if !refusal.is_absent() => Err(refusal),
@@ -65,7 +65,7 @@ fn begin_anew(layout: &FolderLayout) -> Result<File, Refusal> {
     }
 }
 
-// A line of a script as a log shows it: control bytes, and bytes outside ASCII, as `?`.
+// Writes a line of a script as a log shows it, with `?` for control bytes and bytes outside ASCII.
 fn shown(line: &[u8], text: &mut String) -> Result<(), AllocError> {
     for byte in line {
         let is_plain = b' ' <= *byte && *byte <= b'~';
@@ -149,7 +149,7 @@ impl Log {
         Ok(())
     }
 
-    /// Writes what a log says about a script. If that is refused, nothing more is written, and the server reports that once.
+    /// Writes what a log says about a script. If a write is refused, nothing more is written, and the server reports that once.
     pub(crate) fn write(&mut self, layout: &FolderLayout, text: &[u8]) {
         if self.is_over || text.is_empty() {
             return;

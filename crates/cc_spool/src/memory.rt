@@ -11,15 +11,15 @@ use std::collections::VecDeque;
 use std::io::{Read, Write};
 
 /// An answer that was handed over, and the number of the fault that ended its script, 51 to 54 or 61, if one did. With 54 the answer may be
-/// cut anywhere, and has no line for that fault.
+/// cut off anywhere, and has no line for that fault.
 #[derive(Drop)]
 pub struct Answered<W: Drop> {
     pub answer: W,
     pub fault: Option<u32>,
 }
 
-/// A spool in memory, for tests and for runs that need no folder: the scripts of a list, each as a reader, with the writer of its
-/// answer. It gives one at a time, and is over when all are taken.
+/// A spool in memory, for tests and for runs that need no folder: the scripts of a list, each as a reader, with the writer of its answer.
+/// It gives one script at a time, and is over when all are taken.
 #[derive(Drop)]
 pub struct MemorySpool<R: Drop, W: Drop> {
     waiting: VecDeque<(R, W)>,
@@ -28,14 +28,14 @@ pub struct MemorySpool<R: Drop, W: Drop> {
     ended: History<Answered<W>>,
     // Whether a script was taken whose answer was not handed over yet.
     in_hand: bool,
-    // What it answers about the script that is being run.
+    // What `is_long` and `is_awaited` answer about the script that is being run.
     is_long: bool,
     is_awaited: bool,
 }
 
 impl<R: Read + Drop + Send, W: Write + Drop + Send> MemorySpool<R, W> {
-    /// A spool with these scripts, which are taken from the first on. It has room for an answer to each of them from the start,
-    /// and fails only if there is no memory for this room (40).
+    /// A spool with these scripts, which are taken in order. It reserves room for an answer to each of them, and fails only if there is no
+    /// memory for that (40).
     pub fn new(alloc: Global, scripts: Vec<(R, W)>) -> Result<MemorySpool<R, W>, AllocError>
         ensures waiting { IfOk result (λ spool. spool.waiting.items ≡ scripts.items) }
         ensures taken { IfOk result (λ spool. spool.taken.items ≡ []) }
@@ -56,7 +56,7 @@ impl<R: Read + Drop + Send, W: Write + Drop + Send> MemorySpool<R, W> {
         })
     }
 
-    /// Sets whether, from now on, each script counts as one that has been at work for long, and as one for whose end others wait.
+    /// Sets what `is_long` and `is_awaited` answer from now on.
     pub fn set_awaited(&mut self, is_long: bool, is_awaited: bool)
         ensures waiting { self.new.waiting ≡ self.old.waiting }
         ensures answered { self.new.answered ≡ self.old.answered }
@@ -70,7 +70,7 @@ impl<R: Read + Drop + Send, W: Write + Drop + Send> MemorySpool<R, W> {
         self.is_awaited = is_awaited;
     }
 
-    /// The answers so far, in turn.
+    /// The answers so far, in order.
     pub fn answered(&self) -> &[Answered<W>]
         ensures { result.now ≡ self.now.answered.items }
     {
@@ -149,7 +149,7 @@ impl<R: Read + Drop + Send, W: Write + Drop + Send> Spool for MemorySpool<R, W> 
         let answered = Answered { answer, fault };
         self.ended = self.ended.and(&answered);
         self.in_hand = false;
-        // There is room for as many answers as there were scripts. Any further one is dropped if memory is refused.
+        // There is room for as many answers as there were scripts. A further one is dropped if memory is refused.
         let _ = self.answered.push(answered);
     }
 }

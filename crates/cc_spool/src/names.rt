@@ -13,10 +13,10 @@ use std::time::{Duration, SystemTime};
 /// The name of a script has at most this many bytes.
 const NAME_BYTES: usize = 64;
 
-/// The ending that an answer's name has after that of its script while it is being written. No name of a script ends this way.
+/// What comes after the script's name in the name of an answer that is being written. No name of a script ends this way.
 pub const ANSWER: &str = ".answer";
 
-/// The beginning of the name of a file with which a server tries the folder. No name of a script begins this way.
+/// The beginning of the name of a file with which a server tests the folder. No name of a script begins this way.
 pub const TRIED: &str = ".try-";
 
 fn is_letter(byte: u8) -> bool
@@ -37,8 +37,8 @@ fn are_plain_bytes(bytes: &[u8]) -> bool
     bytes.iter().all(|byte| is_plain_byte(*byte))
 }
 
-/// Whether a file with this name may be a script: 1 to 64 letters, digits, `-` and `_`. So no name is a path, is hidden, or is that of
-/// an answer that is being written.
+/// Whether a file with this name may be a script: 1 to 64 letters, digits, `-` and `_`. So no such name is a path, is hidden, or is
+/// the name of an answer that is being written.
 pub fn is_plain(name: &str) -> bool
     ensures { result ≡ is_plain name.now }
 {
@@ -63,7 +63,7 @@ pub(crate) fn since_1970(rt: &HostRuntime) -> Result<Duration, Refusal> {
     )
 }
 
-/// A name of 48 bytes that nobody else has: the time, so that scripts are taken in the order of time, the number of a process, and 64
+/// A name of 48 bytes that nobody else has: the time, so that scripts are taken in the order of time; the number of a process; and 64
 /// random bits.
 pub(crate) fn fresh_name(rt: &HostRuntime, alloc: Global, process: u32) -> Result<String, Refusal> {
     let own = random_bits(rt)?;

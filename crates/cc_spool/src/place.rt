@@ -5,22 +5,22 @@ use crate::names::ANSWER;
 /// The place of a script's file.
 #[derive(Clone, Copy, Drop)]
 pub(crate) enum Place {
-    /// `tmp/ID`: the script, being written.
+    /// `tmp/ID`: the script, while it is being written.
     Written,
-    /// `new/ID`: the script, when it waits.
+    /// `new/ID`: the script, while it waits.
     Waiting,
-    /// `cur/ID`: the script, when it was claimed.
+    /// `cur/ID`: the script, once it is claimed.
     Claimed,
-    /// `cur/ID.answer`: its answer, being written.
+    /// `cur/ID.answer`: its answer, while it is being written.
     Answer,
-    /// `done/ID`: its answer, whole.
+    /// `done/ID`: its answer, once it is complete.
     Done,
-    /// In the folder itself, which has no script's file except those with which a start tries the folder.
+    /// In the folder itself: only the files with which a start tests the folder.
     Top,
 }
 
 impl Place {
-    /// The part of the folder that has it.
+    /// The part of the folder that has this place.
     pub(crate) fn part(self) -> &'static str {
         match self {
             Place::Written => "tmp",
@@ -31,7 +31,7 @@ impl Place {
         }
     }
 
-    /// What its name has after that of the script.
+    /// What comes after the script's name in the file's name.
     pub(crate) fn ending(self) -> &'static str {
         match self {
             Place::Answer => ANSWER,

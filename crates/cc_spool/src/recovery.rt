@@ -1,4 +1,4 @@
-// What a server that was killed left, and what clients left long ago.
+// What is done about files that a killed server left, and those that clients left long ago.
 
 use crate::calls::{read_at, set_length, settle, write_at};
 use crate::claims::{INTERRUPTED, UNWRITTEN, hand_over};
@@ -15,7 +15,7 @@ use std::io;
 
 const DAY: i64 = 86_400;
 
-// The plain names that `cur` has: those of scripts, and those of answers.
+// The plain names found in `cur`: those of scripts, and those of answers.
 #[derive(Drop)]
 struct Left {
     claims: Vec<String>,
@@ -52,7 +52,8 @@ impl Left {
     }
 }
 
-// How many bytes at the start of a file are whole lines, and whole sources with the lines that say their lengths.
+// The length of the longest beginning of a file that consists of whole lines, and of whole sources with the lines that say their
+// lengths.
 fn whole_lines(file: &File) -> Result<u64, Refusal> {
     let end = Found::of_file(file)?.bytes;
     let mut piece = [0u8; 4096];
@@ -88,12 +89,12 @@ fn ends_with(file: &File, end: u64, line: &[u8]) -> Result<bool, Refusal> {
     Ok(&last[..count] == line)
 }
 
-// Completes the answer to a script that was begun: what was written up to the last whole line stays, and a line after it says,
-// once, that the script was interrupted. An answer that begins with the line for 54 is cut to that line: a server was killed
+// Completes the answer to a script that was begun: what was written up to the last whole line is kept, and a line after it says,
+// once, that the script was interrupted. An answer that begins with the line for 54 is cut off after that line: a server was killed
 // while it wrote the line over the answer.
 //
-// An answer that ends within a source is cut back to before the line that says how long the source is. Otherwise the line for 55
-// could be taken for the rest of the source, and nobody could tell the two apart.
+// An answer that ends within a source is cut off before the line that says how long the source is. Otherwise the line for 55 could
+// be taken for the rest of the source, and nobody could tell the two apart.
 fn complete(file: &File) -> Result<(), Refusal> {
     let end = whole_lines(file)?;
     let unwritten = UNWRITTEN.len() as u64;
@@ -119,7 +120,7 @@ fn take_out(layout: &FolderLayout, name: &str) -> Result<(), Refusal> {
     }
 }
 
-// In what state a start finds an answer.
+// The state in which a start finds an answer.
 #[derive(Clone, Copy, Drop)]
 enum LeftAnswer {
     Gone,
@@ -162,7 +163,7 @@ fn complete_left(layout: &FolderLayout, name: &str) -> Result<(), Refusal> {
 }
 
 /// Completes an answer that was left, so that it can be handed over. The result is whether its script was begun. An answer whose
-/// script was not begun is removed. An `Err` leaves both for the next start.
+/// script was not begun is removed. An `Err` leaves the answer and its script for the next start.
 pub(crate) fn complete_answer(layout: &FolderLayout, name: &str) -> Result<bool, Refusal> {
     match left_answer(layout, name)? {
         LeftAnswer::Gone => Ok(false),
@@ -182,7 +183,7 @@ pub(crate) fn complete_answer(layout: &FolderLayout, name: &str) -> Result<bool,
     }
 }
 
-// Removes a script that has no answer here, since its answer was handed over. An `Err` leaves it for the next start.
+// Removes a script whose answer is no longer in `cur`, since it was handed over. An `Err` leaves it for the next start.
 fn remove_answered(layout: &FolderLayout, name: &str) -> Result<(), Refusal> {
     if layout.look(Place::Answer, name)?.is_some() || layout.is_free(Place::Claimed, name) {
         return Ok(());
@@ -191,15 +192,15 @@ fn remove_answered(layout: &FolderLayout, name: &str) -> Result<(), Refusal> {
     layout.remove_claim(name)
 }
 
-/// What a start found that an earlier server had left.
+/// What a start did about the scripts that an earlier server had left.
 #[derive(Drop)]
 pub struct Recovered {
     /// How many scripts had been begun, and are answered now.
     pub begun: u64,
-    /// The names of those that could not be answered yet, for the spool that tries them again (`FolderSpool::keep`).
+    /// The names of scripts that could not be answered yet, for the spool that tries them again (`FolderSpool::keep`).
     pub kept: Vec<String>,
-    /// How many claims of scripts that were answered could not be removed: directories that somebody put in a script's place, and
-    /// that are not empty.
+    /// How many claims of scripts that were answered could not be removed: in the script's place there is a directory that somebody
+    /// put there, and it is not empty.
     pub stuck: u64,
 }
 
@@ -216,7 +217,7 @@ impl Recovered {
         }
     }
 
-    // Answers what a server had begun, and removes what was answered.
+    // Answers the scripts that a server had begun, and removes those that were answered.
     fn recover(&mut self, layout: &FolderLayout, left: &Left) -> Result<(), Refusal> {
         for name in left.answers.as_slice() {
             self.answer(layout, name.as_str())?;
@@ -230,11 +231,11 @@ impl Recovered {
     }
 }
 
-/// Answers what a server that was killed had begun, with 55 after the whole lines of each answer. Then it removes what that
-/// server had left of claims that were not made or were answered.
+/// Answers the scripts that a killed server had begun, with 55 after the whole lines of each answer. Then it removes what that
+/// server left of claims that were not completed, or whose scripts were answered.
 ///
-/// What can't be handed over, or can't be looked at, stays in `cur`, and does not keep the server from its work. An `Err` if
-/// `cur` can't be read, or there is no memory for the names in it.
+/// What can't be handed over, or can't be looked at, stays in `cur`, and does not keep the server from working. An `Err` if `cur`
+/// can't be read, or there is no memory for the names in it.
 pub fn recover(layout: &FolderLayout) -> io::Result<Recovered> {
     let mut left = Left {
         claims: Vec::new(layout.alloc),
@@ -251,7 +252,7 @@ pub fn recover(layout: &FolderLayout) -> io::Result<Recovered> {
 }
 
 // Whether a file with this name in a part may be cleared: a script or an answer that clients left, or a file with which a start
-// tried the folder.
+// tested the folder.
 fn may_be_cleared(place: Place, name: &str) -> bool {
     let is_clients = match place {
         Place::Written | Place::Done => true,
@@ -274,8 +275,8 @@ fn clear(layout: &FolderLayout, place: Place, name: &str, moment: i64) -> u64 {
     }
 }
 
-// Removes from a part what was last written before `moment`. The result is how many files were removed. What can't be looked at
-// stays there.
+// Removes from a part the files that may be cleared and were last written before `moment`. The result is how many files were
+// removed. What can't be looked at stays there.
 fn clear_part(layout: &FolderLayout, place: Place, moment: i64) -> Result<u64, Refusal> {
     let mut entries = layout.entries(place.part())?;
     let mut cleared = 0u64;
@@ -310,9 +311,9 @@ fn clear_parts(layout: &FolderLayout, days: u32) -> Result<u64, Refusal> {
 }
 
 /// Removes files that were last written more than this many days ago: scripts and answers from `done` and `tmp`, and from all parts
-/// what the start of a server that was killed left there. The result is how many files were removed. What can't be removed stays
-/// there; so does what is not a regular file, or has a name that no script has. An `Err` if the folder is no longer the one that
-/// is held: nothing was removed then.
+/// the files that the start of a killed server left there. The result is how many files were removed. What can't be removed stays
+/// there; so does anything that is not a regular file, or has a name that no script may have. An `Err` if the folder is no longer
+/// the one that is held; then nothing was removed.
 pub fn clear_old(layout: &FolderLayout, days: u32) -> io::Result<u64> {
     Ok(clear_parts(layout, days)?)
 }

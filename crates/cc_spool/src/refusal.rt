@@ -1,7 +1,8 @@
 // Why a call in a folder was refused.
 //
-// An `io::Error` carries its words, and each function that passes one on is proved to move them. In this crate a refusal is an
-// error number of the system, or one of the spool's own reasons. The words come back when it leaves the crate.
+// An `io::Error` carries a text, and each function that passes one on is proved to move that text. In this crate a refusal is
+// an error number of the system, or one of the spool's own reasons. It becomes an `io::Error` with a text when it leaves the
+// crate.
 
 use std::alloc::AllocError;
 use std::io;
@@ -12,9 +13,9 @@ const NOT_FOUND: i32 = 2;
 /// Why a call in a folder was refused.
 #[derive(Clone, Copy, Drop)]
 pub(crate) enum Refusal {
-    /// The system refused it, with this number.
+    /// The system refused the call, with this number.
     System(i32),
-    /// There is no memory.
+    /// Memory ran out.
     NoMemory,
     /// The call did less than it was asked to.
     CutShort,

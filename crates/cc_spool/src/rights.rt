@@ -1,8 +1,7 @@
 // How a folder is made, and who may do what in it.
 //
-// A folder that has the set-group-id bit is a group's: its members are the clients, and nobody else. In any other folder
-// everybody may be a client. `new` and `tmp` are sticky then, so that nobody removes another's files. Only the server writes to
-// `done`.
+// A folder that has the set-group-id bit is a group's: only its members may be clients. In any other folder everybody may be a
+// client. `new` and `tmp` are sticky then, so that nobody removes another user's files. Only the server writes to `done`.
 
 ghost use Rattle.std.specs.Prelude.{◌≡◌, IfSome};
 
@@ -21,18 +20,17 @@ pub struct WidePart {
     pub part: &'static str,
     /// The rights that it has, 0 to 0o7777.
     pub mode: u32,
-    /// The widest that it should have.
+    /// The widest rights that it should have.
     pub most: u32,
 }
 
-// Makes a part with these rights, whatever the process's mask takes from them, if nothing is at its path. It gets its name only
-// when it has its rights. Until then its name is `making`. An `Err` if something that is not an empty directory has that name:
-// whoever put it there would share the part.
+// Makes a part with these rights, regardless of the process's umask, if nothing is at its path. Until it has these rights, its name
+// is `making`. An `Err` if something that is not an empty directory has that name: whoever put it there would share the part.
 fn make_part(layout: &FolderLayout, part: &str, making: &str, rights: u32) -> Result<(), Refusal> {
     if layout.has(part)? {
         return Ok(());
     }
-    // A server that was killed here may have left it.
+    // A server that was killed here may have left this directory.
     if layout.has(making)? {
         layout.remove_directory(making)?;
     }
@@ -59,8 +57,8 @@ fn make_parts(layout: &FolderLayout) -> Result<(), Refusal> {
     make_part(layout, "done", ".making-done", done)
 }
 
-// An `Err` if the folder has a part but no `lock`, which is made first. Then it is no spool, and what is in it belongs to no
-// server. The parts are looked at before `lock`, since another server may be making them.
+// An `Err` if the folder has a part but no `lock`, which is made first. Such a folder is not a spool, and what is in it does not
+// belong to a server. The parts are looked at before `lock`, since another server may be making them.
 fn must_be_spool(layout: &FolderLayout) -> Result<(), Refusal> {
     let mut has_parts = false;
     for part in ["cur", "tmp", "new", "done"] {
@@ -77,16 +75,16 @@ fn make_folder(layout: &FolderLayout) -> Result<(), Refusal> {
     if !layout.has(".")? {
         layout.make_folder()?;
         layout.set_rights(".", 0o755)?;
-        // If it can't be opened, it can't be synced: then only a power cut soon after could lose the folder.
+        // A directory that can't be opened can't be synced: then only a power cut soon after could lose the folder.
         let _ = layout.sync_above();
     }
     Ok(())
 }
 
-// An `Err` if the folder does not belong to the user whose file this start made in it, or everybody may write to it, or a link
-// that is its name belongs to neither that user nor root. Whoever may write to the folder can put a link in the place of `lock` or
-// of a part at any moment, and a file would be made through it. The owner of a link that is the folder's name can do the same.
-// Root can do so in any case.
+// An `Err` if the folder does not belong to the user whose file this start made in it, or everybody may write to it, or its path is a
+// link that belongs to neither that user nor root. Whoever may write to the folder can put a link in the place of `lock` or of a part
+// at any moment, and a file would be made through it. The owner of a link at the folder's path can do the same. Root can do so in any
+// case.
 fn must_be_own(layout: &FolderLayout, made: &Found) -> Result<(), Refusal> {
     let Some(found) = layout.look_at(".")? else {
         return Err(Refusal::Foreign);
@@ -103,7 +101,7 @@ fn must_be_own(layout: &FolderLayout, made: &Found) -> Result<(), Refusal> {
     }
 }
 
-// Makes a file and removes it: whatever was written before that file is older than this start.
+// Makes a file and removes it: a file that is older than this one was written before this start.
 fn begin(layout: &FolderLayout, process: u32) -> Result<Found, Refusal> {
     let own = fresh_name(&layout.rt, layout.alloc, process)?;
     let name = format!(in layout.alloc; "{TRIED}{own}")?;
@@ -136,13 +134,14 @@ fn take(layout: &mut FolderLayout, process: u32) -> Result<Option<Held>, Refusal
     }
 }
 
-/// Takes the folder for this server, until what is returned is released; none if another server held it for a whole second.
+/// Takes the folder for this server until the returned lock is released. The result is `None` if another server held the lock for a
+/// whole second.
 ///
-/// What is missing is made: the folder with 0755; `cur` with 0700, `new` and `tmp` with 3777, `done` with 0755. If the folder has
-/// the set-group-id bit, `cur` gets 2700 and the others 2770. What is there keeps its rights. Then all that a server does there is
-/// tried. An `Err` if one of these is refused, which leaves what was made; if a part is there but `lock` is not; or, checked before
-/// `lock` is opened, if the folder belongs to another user, or a link that is its name to another user except root, or everybody
-/// may write to the folder.
+/// What is missing is made: the folder with 0755; `cur` with 0700, `new` and `tmp` with 3777, `done` with 0755. If the folder has the
+/// set-group-id bit, `cur` gets 2700 and the others 2770. What is there keeps its rights. Then everything that a server does in the
+/// folder is tried. Three things give an `Err`. First, checked before `lock` is opened: the folder belongs to another user, its path
+/// is a link that belongs to another user except root, or everybody may write to it. Second: a part is there but `lock` is not.
+/// Third: the system refuses a call; what was made until then stays.
 pub fn take_folder(layout: &mut FolderLayout, process: u32) -> io::Result<Option<Held>> {
     Ok(take(layout, process)?)
 }
@@ -154,7 +153,7 @@ fn settle_folder(
     process: u32,
 ) -> Result<(), Refusal> {
     layout.hold(held)?;
-    // The file that was opened must be the one that is there, not another one reached through a link.
+    // The file that was opened must be the one that is at `lock`, not another file reached through a link.
     layout.must_be_held()?;
     layout.take_old_stop_back(begun)?;
     make_parts(layout)?;
@@ -201,8 +200,8 @@ fn is_right(found: &Found, made: &Found, is_servers: bool, is_shared: bool) -> b
     found.is_directory() && is_free && is_reached && (is_own || !is_servers)
 }
 
-// Whether the server's files are what clients expect: owned by the owner of the folder and of `cur`, and by the group if the
-// folder belongs to one; and whether the server may take others' scripts out of a sticky part.
+// An `Err` if the server's files are not what clients expect (owned by the owner of the folder and of `cur`, and by the group if the
+// folder belongs to one), or if the server may not take others' scripts out of a sticky part.
 fn try_owners(layout: &FolderLayout, made: &Found) -> Result<(), Refusal> {
     let is_group = layout.is_group();
     for (part, is_servers, is_shared) in [
@@ -220,8 +219,8 @@ fn try_owners(layout: &FolderLayout, made: &Found) -> Result<(), Refusal> {
     Ok(())
 }
 
-// The part, if its rights are wider than `most`: if they have a bit that `most` lacks, or, for a sticky part, if everybody may
-// write and the sticky bit is missing.
+// The part, if its rights are wider than `most`: that is, if they have a bit that `most` lacks, or, for a sticky part, if everybody
+// may write and the sticky bit is missing.
 fn wide_part(part: &'static str, mode: u32, most: u32) -> Option<WidePart>
     ensures { IfSome result (λ wide. (wide.mode ≡ mode) × (wide.most ≡ most)) }
 {
@@ -255,7 +254,8 @@ fn note_wide(
     Ok(())
 }
 
-/// The parts whose rights are wider than they should be: others could take the place of the server, or take scripts and answers away.
+/// The parts whose rights are wider than they should be: with these rights, other users could act as the server, or take scripts and
+/// answers away.
 pub fn wide_parts(layout: &FolderLayout) -> io::Result<Vec<WidePart>> {
     let mut wide = Vec::new(layout.alloc);
     for (part, most) in [

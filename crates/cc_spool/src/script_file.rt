@@ -1,4 +1,5 @@
-// The file that a script is read from, and the lines that were read, without what comes after a line: sources and input words.
+// The file that a script is read from, and the lines that were read, without the sources and input words that come after a
+// line.
 
 use std::alloc::Global;
 use std::fs::File;
@@ -15,22 +16,22 @@ const MOST_LINES: usize = 65_536;
 enum Part {
     // A line.
     Line,
-    // This many bytes after a line, at least one, and then this many others, if the line has two such parts.
+    // This many bytes after a line, at least one; then this many more, if two such parts come after the line.
     Bytes(u64, Option<u64>),
-    // The end of such a part: a newline, or the first byte of the rest of a line that is not a command.
+    // The byte after a part that comes after a line: a newline, or the first byte of the rest of a line that is not a command.
     End(Option<u64>),
     // The rest of a line that is not a command.
     Rest,
 }
 
-/// A script that is read from a file, and its lines so far. If there is no memory for some of them, a log lacks these.
+/// A script that is read from a file, and its lines so far. Lines for which there is no memory are missing from the log.
 #[derive(Drop)]
 pub struct ScriptFile {
     file: File,
     part: Part,
     // The line that is being read.
     line: Vec<u8>,
-    // The lines that ended, each with a newline, and how many there are.
+    // The lines read to their end, each with a newline, and how many there are.
     lines: Vec<u8>,
     count: usize,
     // Whether all lines so far were kept.
@@ -55,8 +56,8 @@ fn number_of(digits: Option<&[u8]>) -> Option<u64> {
     Some(number)
 }
 
-// How many bytes come after a line, and how many after these, if there are any. If the line is not a command, the result does
-// not matter.
+// How many bytes come after a line as its first part, and how many as its second part, if there are such parts. If the line is
+// not a command, the result does not matter.
 fn bytes_after(line: &[u8]) -> Option<(u64, Option<u64>)> {
     let mut words = line.split(|byte| *byte == b' ');
     let verb = words.next()?;
@@ -79,7 +80,7 @@ fn bytes_after(line: &[u8]) -> Option<(u64, Option<u64>)> {
     None
 }
 
-// A part of `count` bytes, and then one of the other number, if there is one.
+// A part of `count` bytes, and then one of `then` bytes, if that is given.
 fn part_of(count: u64, then: Option<u64>) -> Part {
     if count == 0 {
         Part::End(then)
@@ -131,7 +132,7 @@ impl ScriptFile {
         self.line.clear();
     }
 
-    // Takes a byte of a line.
+    // Reads a byte of a line.
     fn take_of_line(&mut self, byte: u8) {
         if byte == b'\n' {
             self.end_line();
@@ -140,7 +141,7 @@ impl ScriptFile {
         }
     }
 
-    // Takes a byte of the script.
+    // Reads a byte of the script.
     fn take(&mut self, byte: u8) {
         match self.part {
             Part::Line => self.take_of_line(byte),

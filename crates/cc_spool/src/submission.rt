@@ -1,13 +1,13 @@
 // How a client leaves a script in a folder, and waits for its answer.
 //
 // The script is written to `tmp`, synced, and linked into `new`, so that it is there as a whole or not at all, and never in the
-// place of another. While it is in `new` none of it is run, and taking it back is one call, which finds either the script or a
-// claim. A script that was claimed is waited for: its server answers it, or the next one. If another file has its place in `new`,
-// the script was claimed.
+// place of another script. While it is in `new` none of it is run, and taking it back is one call, which finds either the script or
+// a claim. The client goes on waiting for a script that was claimed: its server answers it, or the next server does. If another file
+// has its place in `new`, the script was claimed.
 //
-// The name in `new` is that of the answer, and whoever knows it first may put a script of their own there. Everybody sees the
-// name in `tmp` while the script is written, so the name in `new` is another one: it is drawn when the script is whole, and
-// nobody has seen it before the link that takes it.
+// The answer has the script's name in `new`, and whoever knows that name first may put a script of their own there. Everybody sees
+// the name in `tmp` while the script is written, so the name in `new` is a different one: it is drawn once the script is complete,
+// and nobody has seen it before the script is linked to it.
 
 ghost use Rattle.std.specs.Prelude.{◌≡◌, ◌<◌, ◌≤◌, IfOk, OnOk, length};
 ghost use Rattle.std.specs.Io.KnownBytes.{Appends, Keeps, ReadConsumes};
@@ -30,15 +30,17 @@ use std::time::{Duration, Instant};
 /// At most this many bytes of a script are sent: one more than a script may have, so that the server sees that it is too long.
 const SENT_SCRIPT_BYTES: u64 = 16_777_217;
 
-/// The pauses between two looks for an answer, in microseconds: each is longer by a quarter than the one before.
+/// The shortest and the longest pause between two looks for an answer, in microseconds. Each pause is a quarter longer than the one
+/// before.
 const LEAST_PAUSE: u64 = 200;
 
 const MOST_PAUSE: u64 = 64_000;
 
-/// How long there has to be no server, or the folder has to be unusable, before a client gives up, in milliseconds.
+/// How long a client goes on when there is no server, or the folder can't be used, before it gives up, in milliseconds.
 const NO_SERVER: u64 = 3_000;
 
-/// One look adds at most this much to that time, in milliseconds: one call that hangs is no reason to give up.
+/// One look adds at most this much to the time without a server, in milliseconds: a single call that hangs is not a reason to give
+/// up.
 const MOST_STEP: u64 = 100;
 
 /// After this many milliseconds a note for a person says that the script waits.
@@ -59,19 +61,19 @@ pub enum Submission {
     /// It was answered, but the answer could not be read to its end, after what was written out. It stays in `done` under this
     /// name.
     CutShort(String, io::Error),
-    /// It was left under this name, and then the folder could not be used for three seconds, or the clock could not be read, or it
-    /// was taken back and that could not be synced: it is not known whether it is or will be run.
+    /// It was left under this name, and then the folder could not be used for three seconds, or the clock could not be read, or the
+    /// script was taken back and that could not be synced: it is not known whether the script is or will be run.
     Lost(String, io::Error),
 }
 
-// A copy that ended early: at the reader, or at the writer.
+// Which side ended a copy early: the reader or the writer.
 #[derive(Clone, Copy, Drop)]
 enum Side {
     Reader(Refusal),
     Writer(Refusal),
 }
 
-// Reads the next bytes. An interrupted call is made again.
+// Reads the next bytes. An interrupted call is repeated.
 fn read_some<S: Read>(reader: &mut S, room: &mut [u8]) -> Result<usize, Refusal>
     ensures few { IfOk result (λ count. count ≤ length room.new) }
     ensures room { length room.new ≡ length room.old }
@@ -101,7 +103,7 @@ fn flush<W: Write>(writer: &mut W) -> Result<(), Refusal>
     Ok(())
 }
 
-// Copies the next bytes, and reads their lines. The result is how many bytes: none at the reader's end.
+// Copies the next bytes, and reads their lines. The result is how many bytes were copied: 0 at the reader's end.
 fn pass_on<S: Read, W: Write>(
     reader: &mut S,
     writer: &mut W,
@@ -123,7 +125,7 @@ fn pass_on<S: Read, W: Write>(
     }
 }
 
-// Copies this many bytes, or all if there are fewer, and reads their lines: the last fault of an answer is in its lines.
+// Copies this many bytes, or all if there are fewer, and reads their lines, in which the last fault of an answer is found.
 fn copy<S: Read, W: Write>(reader: &mut S, writer: &mut W, most: u64) -> Result<Lines, Side>
     ensures { Copies most (S.remaining reader.old) (S.remaining reader.new) (W.contents writer.old) (W.contents writer.new) result }
 {
@@ -146,7 +148,7 @@ fn copy<S: Read, W: Write>(reader: &mut S, writer: &mut W, most: u64) -> Result<
     }
 }
 
-// Writes a script to a new file. The result is which file that is, if the script was read to its end.
+// Writes a script to a new file. The result identifies that file, if the script was read to its end.
 fn write_script<S: Read>(
     file: &mut File,
     begin: &[u8],
@@ -169,8 +171,7 @@ struct Published {
     made: Found,
 }
 
-// Gives a script that is whole a name in `new`, which is drawn only now. If that is refused, the script has only its name in
-// `tmp`.
+// Gives a complete script a name in `new`, which is drawn only now. If the link is refused, the script has only its name in `tmp`.
 fn publish(layout: &FolderLayout, process: u32, written: &str) -> Result<String, Refusal> {
     let name = fresh_name(&layout.rt, layout.alloc, process)?;
     match layout.publish(written, name.as_str()) {
@@ -182,7 +183,7 @@ fn publish(layout: &FolderLayout, process: u32, written: &str) -> Result<String,
     }
 }
 
-// Puts a script where a server finds it; none if it can't be read to its end. If it is not put there, nothing is left of it.
+// Puts a script into `new`; none if it can't be read to its end. If it is not put there, nothing is left of it.
 fn put<S: Read>(
     layout: &FolderLayout,
     process: u32,
@@ -205,8 +206,8 @@ fn put<S: Read>(
     put
 }
 
-// The answer to a script, if it is there: a regular file of the user who owns `cur`. Its name says which script it answers: nobody
-// else had seen that name before the script had it.
+// The answer to a script, if it is there: a regular file of the user who owns `cur`. Its name shows that it answers this script:
+// nobody else saw that name before the script had it.
 fn answer_of(layout: &FolderLayout, name: &str) -> Result<Option<File>, Refusal> {
     let Some(found) = layout.look(Place::Done, name)? else {
         return Ok(None);
@@ -221,7 +222,7 @@ fn answer_of(layout: &FolderLayout, name: &str) -> Result<Option<File>, Refusal>
     }
 }
 
-// Takes a script back. Without the sync a power cut could undo that, and the script would be run after all.
+// Takes a script back. Without the sync a power cut could undo the removal, and the script would be run after all.
 fn take_back(layout: &FolderLayout, name: &str) -> Result<Seen, Refusal> {
     match layout.remove(Place::Waiting, name) {
         Ok(()) => Ok(match layout.sync_part("new") {
@@ -258,7 +259,7 @@ enum Seen {
     Waiting,
     // It was taken back.
     Back,
-    // It was taken back, but a power cut could undo that.
+    // It was taken back, but a power cut could still undo that.
     Unsettled(Refusal),
     // It was claimed.
     Claimed,
@@ -270,9 +271,10 @@ struct Waiting {
     name: String,
     // Which file it is.
     made: Found,
-    // How long it may wait, in milliseconds; if that is not given, as long as a server is there.
+    // How long it may wait, in milliseconds; if this is not given, it may wait as long as there is a server.
     most: Option<u64>,
-    // How long it has not been claimed, in milliseconds; if `most` is not given, only the time since a server was last there counts.
+    // How long it has waited without being claimed, in milliseconds; if `most` is not given, only the time since there last was a
+    // server counts.
     unclaimed: u64,
 }
 
@@ -304,7 +306,7 @@ impl Waiting {
     fn count(&mut self, layout: &FolderLayout, since: u64) {
         self.unclaimed = match self.most {
             Some(_) => self.unclaimed.saturating_add(since),
-            // If the lock can't be tried, a server counts as being there.
+            // If the lock can't be tried, a server is taken to be there.
             None if layout.is_held().unwrap_or(true) => 0,
             None => self.unclaimed.saturating_add(since.min(MOST_STEP)),
         };
@@ -319,7 +321,7 @@ impl Waiting {
         }
     }
 
-    // Notes for a person that the script waits. If that can't be written, it is no reason to end.
+    // Writes a note for a person that the script waits. A note that can't be written is not a reason to end.
     fn tell<E: Write>(&self, layout: &FolderLayout, is_claimed: bool, explanations: &mut E) {
         let _ = if is_claimed {
             writeln!(explanations, "cclib: the script is being done")
@@ -361,7 +363,7 @@ impl Waiting {
     }
 }
 
-// How long a script has waited, and whether a person has learned of that.
+// How long a script has waited, and whether a note for a person has said so.
 #[derive(Clone, Copy, Drop)]
 struct Patience {
     // The moment up to which the milliseconds are counted.
@@ -386,7 +388,7 @@ impl Patience {
         })
     }
 
-    // The whole milliseconds since the last look; a remaining part of one counts at the next look.
+    // The whole milliseconds since the last look; the remaining fraction counts at the next look.
     fn pass(&mut self, rt: &HostRuntime) -> Result<u64, Refusal> {
         let now = Instant::now(rt)?;
         let since = now.duration_since(self.moment);
@@ -400,7 +402,7 @@ impl Patience {
         Ok(passed)
     }
 
-    // Notes that a look succeeded. The result is whether a person is to learn now that the script waits.
+    // Notes that a look succeeded. The result is whether to write now, for a person, that the script waits.
     fn look(&mut self) -> bool {
         self.failing = 0;
         let is_due = !self.is_told && TELL <= self.waited;
@@ -421,7 +423,7 @@ impl Patience {
     }
 }
 
-// Waits until a script has its answer, or was taken back. In the second case the result has no answer. What fails is tried again
+// Waits until a script has its answer, or was taken back. In the second case the result has no answer. Calls that fail are repeated
 // for three seconds.
 fn wait_for_answer<E: Write>(
     layout: &FolderLayout,
@@ -452,7 +454,7 @@ fn wait_for_answer<E: Write>(
     Ok(None)
 }
 
-// Waits for the answer of a script that was left in a folder, and writes it out.
+// Waits for the answer to a script that was left in a folder, and writes it out.
 fn wait<W: Write, E: Write>(
     layout: &FolderLayout,
     mut waiting: Waiting,
@@ -491,18 +493,18 @@ fn leave<S: Read>(
     }))
 }
 
-/// Leaves a script in the folder: the bytes given, and then those of the reader. Then the function waits for its answer, copies
-/// that to the writer, and removes it if that is allowed.
+/// Leaves a script in the folder: the bytes given, then those of the reader. Then it waits for the answer, copies the answer to the
+/// writer, and removes it if that is allowed.
 ///
-/// `process` is the number of this process. If `seconds` is given, a script is taken back that was not claimed for that long; if
-/// not, one is taken back when no server has held the folder for three seconds in a row. A script that was claimed is never taken
-/// back: its server answers it, or the next one does, with 55. A note that the script waits goes to `explanations` after a
+/// `process` is the number of this process. If `seconds` is given, a script that was not claimed for that long is taken back; if
+/// not, it is taken back once no server has held the folder for three seconds in a row. A script that was claimed is never taken
+/// back: its server answers it, or the next server does, with 55. A note that the script waits goes to `explanations` after a
 /// second.
 ///
 /// An `Err` if the script could not be left in the folder (56): none of it is run.
 ///
-/// If it was answered, the writer got exactly the answer's bytes, and a fault is reported exactly if a line that is not within a
-/// source begins with `fault `, or the answer ends within one.
+/// If the script was answered, the writer got exactly the answer's bytes, and a fault is reported exactly if a line that is not
+/// within a source begins with `fault `, or the answer ends within one.
 pub fn submit<S: Read, W: Write, E: Write>(
     layout: &FolderLayout,
     process: u32,

@@ -5,7 +5,7 @@ use Rattle.cc_link.specs.Fault.{link_fault_number}
 use Rattle.cc_stages.specs.declared.fault.StagesFault.{StagesFault}
 use Rattle.cc_stages.specs.declared.fault.StagesFault.TheVariants.{UnknownFunction, Piece, Link, OutOfMemory, Write}
 
--- the number that a fault is known by
+-- the number of a fault
 abbrev pub fault_number : StagesFault → ℕ
 fault_number UnknownFunction = 59
 fault_number (Piece f) = piece_fault_number f

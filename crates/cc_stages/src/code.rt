@@ -1,5 +1,5 @@
 // The listing of a unit's image, and the place in it of each function's lines. After three lines, those of the start that calls `main`, the
-// functions follow one another in the order of their definitions, a line for each word.
+// functions follow one another in the order of definitions, a line for each word.
 
 ghost use Rattle.std.specs.Prelude.{◌≡◌, IfErr};
 ghost use Rattle.cc_stages.specs.declared.fault.StagesFault.TheVariants.{UnknownFunction};
@@ -35,7 +35,7 @@ impl Listing {
     }
 }
 
-// How many words the code of each piece has.
+// How many words of code each piece has.
 fn sizes(alloc: Global, pieces: &[Piece]) -> Result<Vec<usize>, AllocError> {
     let mut sizes = Vec::with_capacity(alloc, pieces.len())?;
     for piece in pieces {
@@ -44,7 +44,7 @@ fn sizes(alloc: Global, pieces: &[Piece]) -> Result<Vec<usize>, AllocError> {
     Ok(sizes)
 }
 
-// The end of this many lines that begin at an offset of a text; the text's end if it has fewer.
+// The end of the `count` lines that begin at offset `from` of a text; the text's end if there are fewer.
 fn behind_lines(text: &[u8], from: usize, count: usize) -> usize {
     let mut left = count;
     for at in from..text.len() {
@@ -89,8 +89,8 @@ fn lines(
     }
 }
 
-/// The listing of the image of a unit with these pieces. Refusals: 25 if there would be more than 131,072 words of code, 40 if
-/// memory ran out.
+/// The listing of the image of a unit with these pieces. Refusals: 25 if there would be more than 131,072 words of code, 40 if memory runs
+/// out.
 pub(crate) fn list_unit(
     alloc: Global,
     mode: Mode,

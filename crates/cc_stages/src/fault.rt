@@ -1,4 +1,4 @@
-// Why a unit's stages are not written, or not to their end.
+// Why a unit's stages are not written, or not completely.
 
 ghost use Rattle.std.specs.Prelude.{◌≡◌};
 ghost use Rattle.cc_stages.specs.Fault.{fault_number};
@@ -8,7 +8,7 @@ use std::alloc::AllocError;
 use std::io;
 use thiserror::Error;
 
-/// Why a unit's stages are not written, or not to their end.
+/// Why a unit's stages are not written, or not completely.
 #[derive(Debug, Drop, Error)]
 pub enum StagesFault {
     /// 59: the unit defines no function with that name.

@@ -14,7 +14,7 @@ use std::alloc::{AllocError, Global};
 use std::io::{self, Write};
 use std::sync::Arc;
 
-// The word for the allocator that made the LTL.
+// The word that names the allocator that made the LTL.
 fn word(allocator: Allocator) -> &'static str {
     match allocator {
         Allocator::Colour => "coloured",
@@ -28,7 +28,7 @@ fn word(allocator: Allocator) -> &'static str {
 struct Writing<'a> {
     name: &'a [u8],
     text: Vec<u8>,
-    // Whether guards come next, or refuse the function.
+    // Whether the guards come next, or refused the function.
     awaits_guards: bool,
 }
 
@@ -78,7 +78,7 @@ impl<'a> Writing<'a> {
         stage.write(self.name, &why, &mut self.text)
     }
 
-    // Writes the end: the line that begins the function's code, or why it has none, if no stage has said so yet.
+    // Writes the end: the line that begins the function's code, or why it has no code, if no stage has said why yet.
     fn write_end(&mut self, piece: &Result<Piece, PieceFault>) -> io::Result<()> {
         match piece {
             Ok(_) => Stage::Code.begin(self.name, &mut self.text),

@@ -1,6 +1,6 @@
 //! What the compiler makes of a unit, stage by stage, as text for a person: for each function, or one by name, its Cminor, its
-//! RTL before and after the nodes that nobody needs are gone, its LTL and which allocator made it, its Linear, its steps, and
-//! the lines of its code.
+//! RTL before and after the nodes that nobody needs become nops, its LTL and which allocator made it, its Linear, its steps,
+//! and the lines of its code.
 //!
 //! `unit` goes over the functions, `function` writes what is seen of one while it goes through the passes, `code` has the
 //! listing of the whole image, cut at its functions. `stage` has the names of the stages, `steps` the text of a step; the other

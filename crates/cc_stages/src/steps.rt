@@ -1,15 +1,16 @@
 // The steps of a function as text: its number and its slots, and a line for each step, in the form of Linear.
 //
-// A step that is an item of Linear has that item's text. An operator has the word in place of its second register, `x7 = add
-// x8, 12`; the element of a number has the number in place of a register, `x7 = object0[3]` and `object0[3] = x8`, or a
-// register and a word whose sum is the number, `x7 = object0[x8 + 3]`; a branch has the comparison, and leads to the label if
-// it holds, `branch lt_s x7, x8 -> 3`, or if it does not, `branch not lt_s x7, 12 -> 3`. Words are unsigned.
+// A step that is an item of Linear has that item's text. An operator on a register and a word has the word in place of its
+// second register, `x7 = add x8, 12`; an access to an element has the element's number in place of a register,
+// `x7 = object0[3]` and `object0[3] = x8`, or a register and a word whose sum is the number, `x7 = object0[x8 + 3]`; a branch
+// has the comparison, and leads to the label if it holds, `branch lt_s x7, x8 -> 3`, or if it does not,
+// `branch not lt_s x7, 12 -> 3`. Words are unsigned.
 
 use cc_linear_language::LinearItem;
 use cc_select::{SelectedPair, Step, WordOperator};
 use std::io::{self, Write};
 
-// The name of an operator on a register and a word, which is that of the same operator on two registers.
+// The name of an operator on a register and a word: the name of the same operator on two registers.
 fn immediate_name(operator: WordOperator) -> &'static str {
     match operator {
         WordOperator::Add => "add",
@@ -74,7 +75,7 @@ fn write_step<W: Write>(step: &Step, writer: &mut W) -> io::Result<()> {
     }
 }
 
-// Writes an access whose number is a register's word plus a word, and no other step.
+// Writes a step if it is an access to an element whose number is a register's word plus a word.
 fn write_near<W: Write>(step: &Step, writer: &mut W) -> io::Result<()> {
     match step {
         Step::LoadNear {
@@ -106,7 +107,7 @@ fn write_near<W: Write>(step: &Step, writer: &mut W) -> io::Result<()> {
     }
 }
 
-// Writes a step that compares, and no other.
+// Writes a step if it compares.
 fn write_branch<W: Write>(step: &Step, writer: &mut W) -> io::Result<()> {
     match step {
         Step::Branch {

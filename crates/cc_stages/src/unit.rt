@@ -45,7 +45,7 @@ struct Shown {
 #[derive(Drop)]
 struct Run {
     shown: Vec<Shown>,
-    // Their pieces, in their order, up to the first function that is refused.
+    // Their pieces, in order; those of the whole unit if no function is refused.
     pieces: Vec<Piece>,
     // Why there is no image: the first refusal, or the refusal of the last function shown.
     refused: Option<PieceFault>,
@@ -112,7 +112,7 @@ fn pass_functions(
     Ok(run)
 }
 
-// Writes the lines of a function's code; if there are none, whether memory ran out or the unit has no image.
+// Writes the lines of a function's code; if there are none, writes whether memory ran out or the unit has no image.
 fn write_code<W: Write>(
     function: usize,
     code: &Result<Listing, StagesFault>,
@@ -140,7 +140,7 @@ fn write_all<W: Write>(
     Ok(())
 }
 
-// The listing of the image of a unit's pieces, if all functions have one.
+// The listing of the image of a unit's pieces, if each function has a piece.
 fn listing(
     alloc: Global,
     mode: Mode,
@@ -188,9 +188,9 @@ fn write_stages<W: Write>(
 /// not flushed.
 ///
 /// Refusals: 59 if no function has that name, with nothing written. If a function has no piece (22, 24), its stages end with
-/// the one that says so, and nothing comes after it. If the unit has no image, for a function that is not wanted (22, 24) or
-/// for its size (25), the wanted functions have all other stages. 40 if memory ran out, 54 if the text could not be written: it
-/// may end anywhere then.
+/// the one that says so, and nothing comes after it. If the unit has no image, because a function that is not wanted has no
+/// piece (22, 24) or because the image would be too large (25), the wanted functions have all other stages, and the last one
+/// says that there is no image. 40 if memory ran out, 54 if the text could not be written: it may end anywhere then.
 pub fn stages<W: Write>(
     alloc: Global,
     mode: Mode,

@@ -22,7 +22,7 @@ settled (outcome.Ended w) a z over on = on
 settled (outcome.Wrong cause) a z over on = on
 
 module _ (law : RunsGoOn) (source : Source) (input : List ℕ) where
-  -- a run that has ended within n steps is the same within more
+  -- a run that has ended within n steps is the same within any larger number of steps
   pub stays : (n m : ℕ) → n ≤ m → ((source_behavior source input n).stop ≡ outcome.Going → ⊥) → source_behavior source input m ≡ source_behavior source input n
   stays n m le over =
       let parts : n + (m - n) ≡ m = omega arith in
@@ -35,11 +35,11 @@ module _ (law : RunsGoOn) (source : Source) (input : List ℕ) where
       either ((source_behavior source input n).stop ≡ outcome.Going) (going_or_not (source_behavior source input n).stop)
       (λ other. sym (ap (λ (o : outcome.Outcome ℕ). o.stop) (stays n m le other)) ∙ going)
 
-  -- a run that is going within `tried` steps is going within any number below one more
+  -- a run that is going within `tried` steps is going within any number of steps up to `tried`
   pub goes_until : (tried : ℕ) → (source_behavior source input tried).stop ≡ outcome.Going → (n : ℕ) → n < tried + 1 → (source_behavior source input n).stop ≡ outcome.Going
   goes_until tried here n less = goes_before n tried (omega arith) here
 
-  -- a count within which the run has ended, while it is still going within fewer
+  -- if the run has ended within the count and is still going within fewer steps, the count is right
   pub counted : (bound count : ℕ) → count ≤ bound → ((n : ℕ) → n < count → (source_behavior source input n).stop ≡ outcome.Going) → ((source_behavior source input count).stop ≡ outcome.Going → ⊥)
       → IsStepCount source bound input count
   counted bound count within before over =

@@ -2,8 +2,8 @@
 //
 // The interpreter says how a run ends within a bound, but not after how many steps. A run that ends within some bound ends
 // within each larger one, so the least bound is found by bisection. If the run is known to be still going within some number of
-// steps, no bound above twice that number plus two is tried. So a search costs some runs of twice the length, and never a run
-// of the whole bound.
+// steps, no bound above twice that number plus two is tried. So a search consists of runs that are at most twice as long as the
+// one that is counted, and none of them is given the whole bound.
 
 ghost use Rattle.std.specs.Prelude.{◌≡◌, ◌≢◌, ◌↔◌, IsTrue, IfOk};
 ghost use Rattle.cc_c_semantics.specs.Outcome as outcome;
@@ -64,7 +64,7 @@ fn least(alloc: Global, unit: &TypedUnit, input: &[u32], bound: u64) -> Result<u
 }
 
 /// What a program does on the words of an input within `steps` steps, and the least number of steps with that result; the
-/// bound, if the run is still going then. Fails with 40 if memory runs out.
+/// bound, if the run is still going at the bound. Fails with 40 if memory runs out.
 pub fn interpret_counted(
     alloc: Global,
     unit: &TypedUnit,

@@ -1,4 +1,4 @@
--- What was printed, given what the folder's client and the rest of the command say.
+-- What was printed, given what is known about `submit` of `cc_spool` and about the rest of the command.
 use Rattle.std.proofs.Common.{◌≡◌, ◌++◌, ◌∷◌, ◌⊎◌, inl, inr, ℕ, Bool, true, false, IsTrue, List, [], Option, None, Some, Result, Ok, Err, Vec, Global, codes, refl, subst, sym, append_assoc}
 use Rattle.std.specs.Io.KnownBytes.{Appends}
 use Rattle.std.proofs.KnownBytes.{Appends-trans}
@@ -13,7 +13,7 @@ use Rattle.cc_submit.specs.declared.submitting.Ended.{Ended}
 use Rattle.cc_submit.specs.declared.submitting.Sent.{Sent}
 use Rattle.cc_submit.specs.declared.submitting.Sent.TheVariants.{Fetch, Line, Script, Source}
 
--- a line is printed after what was written, and a newline before it
+-- if a newline and a line are written after some text, the text, the newline and the line are printed
 pub after : (old between new : Option (List ℕ)) (begun line : List ℕ) → Appends old between begun → Appends between new (10 ∷ line) → Appends old new ((begun ++ 10 ∷ []) ++ line)
 after old between new begun line was is =
     subst (λ (text : List ℕ). Appends old new text) (sym (append_assoc begun (10 ∷ []) line)) (Appends-trans old between new begun (10 ∷ line) was is)
@@ -39,12 +39,12 @@ pub refused_in_line : (old between new : Option (List ℕ)) (is_written : Bool) 
     → SaysRefused is_written old new (10 ∷ [])
 refused_in_line old between new is_written was says = λ (yes : IsTrue is_written). either_in_line old between new was (says yes)
 
--- the same holds for what is handed back
+-- if what is handed back is `came`, what was printed for `came` was printed for it
 pub handed : (fetches : Bool) (came : Option Submission) (old new : Option (List ℕ)) (ended : Ended) → ended.came ≡ came → Prints fetches came old new ended.is_written ended.status
     → Prints fetches ended.came old new ended.is_written ended.status
 handed fetches came old new ended is prints = subst (λ (c : Option Submission). Prints fetches c old new ended.is_written ended.status) (sym is) prints
 
--- how a command ends if its answer was kept because it is to be a source
+-- if the answer was kept because it is to be a source, what is printed is what `Prints` says
 pub fetched : {E : Type 0} (done : Result Submission E) (answer : List ℕ) (old new : Option (List ℕ)) (ended : Ended) → HasWrittenIfOk (Some []) (Some answer) done
     → FinishesSource answer (came_of done) old new ended → Prints true ended.came old new ended.is_written ended.status
 fetched (Ok (Answered None)) answer old new ended was is =
@@ -58,7 +58,7 @@ fetched (Ok (CutShort name why)) answer old new ended was is = handed true (Some
 fetched (Ok (Lost name why)) answer old new ended was is = handed true (Some (Lost name why)) old new ended is.came_is (is.status_is, is.ends)
 fetched (Err why) answer old new ended was is = handed true None old new ended is.came_is (is.status_is, is.ends)
 
--- how a command ends if its answer was written as it came
+-- if the writer is unchanged so far, `Finishes` also holds from its earlier contents
 pub ended_from : (came : Option Submission) (old between new : Option (List ℕ)) (ended : Ended) → between ≡ old → Finishes came between new ended → Finishes came old new ended
 ended_from came old between new ended same is = subst (λ (o : Option (List ℕ)). Finishes came o new ended) same is
 
@@ -80,13 +80,13 @@ printed (Ok (Lost name why)) old between new ended was is =
 printed (Err why) old between new ended was is =
     let from = ended_from None old between new ended was is in handed false None old new ended from.came_is (from.status_is, from.ends)
 
--- how a command ends if its source could not be read
+-- if the source could not be read, and the line for 53 is written, the command ends as `Submits` says
 pub unread : (line : Option (List ℕ)) (old new : Option (List ℕ)) (is_written : Bool) → is_command line ≡ true → Says is_written old new (codes "fault 53 ReadFault\n")
     → Submits line old new (record { came = Some Unread; status = 1; is_written = is_written })
 unread line old new is_written is says =
     subst (λ (b : Bool). EndsAs b (fetches line) old new (record { came = Some Unread; status = 1; is_written = is_written })) (sym is) (refl, says)
 
--- what is sent is a fetch only if it is a line whose answer is a source
+-- if what is sent is not a Fetch, its answer is not to be a source
 pub not_fetch : (sent : Sent) → ((bytes : Vec ℕ Global) → sent ≡ Fetch bytes → ⊥) → is_fetch sent ≡ false
 not_fetch Script other = refl
 not_fetch (Line bytes) other = refl

@@ -1,4 +1,4 @@
--- What is printed of the answer to a script that was sent, and the status.
+-- What is printed for a script that was sent, and the status.
 pub mod Printed
--- What only private contracts use.
+-- Definitions that only private contracts use.
 pub mod internal

@@ -1,4 +1,4 @@
--- What is printed of the answer to a script that was sent, and the status.
+-- What is printed for a script that was sent, and the status.
 use Rattle.std.specs.Prelude.{◌≡◌, ◌⊎◌, ◌||◌, ℕ, Bool, true, false, IsTrue, List, [], ◌∷◌, ◌++◌, Option, Some, None, codes}
 use Rattle.std.specs.Io.KnownBytes.{Appends}
 use Rattle.cc_script.specs.Line.{ScriptRequest, Add, Replace, Withdraw, Names, Run, Compact, Audit, Image, Source, AuditOne, Update, Call, Space, asked_of}
@@ -11,7 +11,7 @@ use Rattle.cc_submit.specs.declared.submitting.Ended.{Ended}
 
 -- ---- what is sent
 
--- a line that has a source after it, or input words
+-- the line has a source or input words after it
 abbrev pub has_bytes : Option ScriptRequest → Bool
 has_bytes None = false
 has_bytes (Some (Add name length)) = true
@@ -28,12 +28,12 @@ has_bytes (Some (Update name expected length)) = false
 has_bytes (Some (Call name steps length)) = true
 has_bytes (Some Space) = false
 
--- a line that has two sources after it
+-- the line has two sources after it
 abbrev pub has_two_sources : Option ScriptRequest → Bool
 has_two_sources (Some (Update name expected length)) = true
 has_two_sources asked = false
 
--- a line that is a whole command
+-- the line is a command as it is
 abbrev pub is_whole : Option ScriptRequest → Bool
 is_whole None = false
 is_whole (Some (Add name length)) = false
@@ -50,19 +50,19 @@ is_whole (Some (Update name expected length)) = false
 is_whole (Some (Call name steps length)) = false
 is_whole (Some Space) = true
 
--- a line whose answer is a source
+-- the answer to the line is a source
 abbrev pub asks_source : Option ScriptRequest → Bool
 asks_source (Some (Source name)) = true
 asks_source asked = false
 
--- A line is a command if it is whole, or becomes one once the number of bytes that follow it, or two such numbers, are written
--- after it. None is a script from standard input.
+-- A line is a command if it is one as it is, or once the number of bytes that follow it, or two such numbers, are added. None is
+-- a script from standard input.
 abbrev pub is_command : (line : Option (List ℕ)) → Bool
 is_command None = true
 is_command (Some line) =
     is_whole (asked_of Served line) || (has_bytes (asked_of Served (line ++ codes " 0")) || has_two_sources (asked_of Served (line ++ codes " 0 0")))
 
--- a line is sent, not a script from standard input, and it asks for a source
+-- a line is sent, not a script from standard input, and the line asks for a source
 abbrev pub fetches : (line : Option (List ℕ)) → Bool
 fetches None = false
 fetches (Some line) = asks_source (asked_of Served line)
@@ -73,8 +73,7 @@ fetches (Some line) = asks_source (asked_of Served line)
 abbrev pub Says : (is_written : Bool) (old new : Option (List ℕ)) (text : List ℕ) → Type 0
 Says is_written old new text = IsTrue is_written → Appends old new text
 
--- these bytes are printed, and then the line for the fault with which the system refused a call: 40 OutOfMemory, or 56
--- FolderFault
+-- these bytes are printed, and then the line for a system call that was refused: 40 OutOfMemory, or 56 FolderFault
 abbrev pub SaysRefused : (is_written : Bool) (old new : Option (List ℕ)) (begun : List ℕ) → Type 0
 SaysRefused is_written old new begun = IsTrue is_written → Appends old new (begun ++ codes "fault 40 OutOfMemory\n") ⊎ Appends old new (begun ++ codes "fault 56 FolderFault\n")
 
@@ -90,14 +89,13 @@ PrintsWell false answer old new is_written status = (status ≡ 0) × Appends ol
 PrintsWell true answer old new is_written status =
     ((source : List ℕ) × (answer ≡ framed source) × PrintsSource source old new is_written status) ⊎ ((status ≡ 1) × (new ≡ old))
 
--- An answer that reports a fault is printed whole, and the status is 1. If it was to be a source, nothing is stated about what is
--- printed.
+-- An answer that reports a fault is printed whole, and the status is 1. If it was to be a source, nothing is stated about what is printed.
 abbrev pub PrintsFault : (fetches : Bool) (answer : List ℕ) (old new : Option (List ℕ)) (status : ℕ) → Type 0
 PrintsFault false answer old new status = (status ≡ 1) × Appends old new answer
 PrintsFault true answer old new status = status ≡ 1
 
--- What is printed depends on what became of the script. If no answer came, the line for a fault is printed; if an answer could
--- not be read to its end, that line comes after what was printed of the answer, and a newline.
+-- What is printed, depending on what became of the script. If no answer came, the line for a fault is printed; if an answer could
+-- not be read to its end, that line follows what was printed of the answer, and a newline.
 abbrev pub Prints : (fetches : Bool) → Option Submission → (old new : Option (List ℕ)) (is_written : Bool) (status : ℕ) → Type 0
 Prints fetches (Some (Answered None)) old new is_written status = (answer : List ℕ) × (¬ TellsFault answer) × PrintsWell fetches answer old new is_written status
 Prints fetches (Some (Answered (Some number))) old new is_written status = (answer : List ℕ) × TellsFault answer × PrintsFault fetches answer old new status

@@ -1,4 +1,3 @@
--- What only private contracts use.
 -- What is sent for a line.
 pub mod Sent
 -- What is done with a submission.

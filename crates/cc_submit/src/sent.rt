@@ -75,7 +75,7 @@ pub(crate) fn script_with(alloc: Global, line: &str, bytes: &[u8]) -> io::Result
     Ok(script)
 }
 
-/// What is sent for a line `update NAME` with the source that is expected and the new one.
+/// What is sent for a line `update NAME` with the expected source and the new one.
 pub(crate) fn update_script(
     alloc: Global,
     line: &str,

@@ -1,4 +1,4 @@
-// A script that is left for a server, and what became of it.
+// Leaves a script for a server, and prints what became of it.
 
 ghost use Rattle.std.specs.Prelude.{◌≡◌, ◌++◌, ◌∷◌, [], false, IfOk, OnErr, codes, string_bytes};
 ghost use Rattle.std.specs.Option.{option_map};
@@ -32,16 +32,16 @@ const NOT_TAKEN: &[u8] = b"fault 58 NotTaken\n";
 /// How a command ended.
 #[derive(Drop)]
 pub struct Ended {
-    /// What became of the script; none if it could not be left in the folder, or the line is no command. An answer that was to be
-    /// a source and was cut short is lost.
+    /// What became of the script; none if it could not be left in the folder, or the line is not a command. An answer that was to be a
+    /// source and was cut short counts as lost.
     pub came: Option<Submission>,
     /// The status.
     pub status: u8,
-    /// Whether all that was to be printed was printed.
+    /// Whether everything that was to be printed was printed.
     pub is_written: bool,
 }
 
-// What is sent.
+// What is sent to the server.
 #[derive(Drop)]
 enum Sent<'a> {
     // The script on standard input.
@@ -50,11 +50,11 @@ enum Sent<'a> {
     Line(Vec<u8>),
     // A line that takes no source, and whose answer is a source.
     Fetch(Vec<u8>),
-    // A script of a line and its source, the offset of the source in the script, and where the source comes from.
+    // A script that consists of a line and its source, the offset of the source in the script, and the origin of the source.
     Source(Vec<u8>, usize, Origin<'a>),
 }
 
-// Whether a line takes a source, or input words: it does if it becomes a command with a length after it.
+// Whether a line takes a source, or input words: it does if it becomes a command once a length is added.
 fn takes_bytes(alloc: Global, line: &str) -> Result<bool, AllocError>
     ensures { IfOk result (λ takes. takes ≡ has_bytes (asked_of Served (line.now ++ 32 ∷ 48 ∷ []))) }
 {
@@ -69,7 +69,7 @@ fn takes_bytes(alloc: Global, line: &str) -> Result<bool, AllocError>
     })
 }
 
-// Whether a line takes two sources: it does if it becomes a command with two lengths after it.
+// Whether a line takes two sources: it does if it becomes a command once two lengths are added.
 fn takes_two_sources(alloc: Global, line: &str) -> Result<bool, AllocError>
     ensures { IfOk result (λ takes. takes ≡ has_two_sources (asked_of Served (line.now ++ 32 ∷ 48 ∷ 32 ∷ 48 ∷ []))) }
 {
@@ -82,7 +82,7 @@ fn takes_two_sources(alloc: Global, line: &str) -> Result<bool, AllocError>
     })
 }
 
-// Whether a line is a whole command.
+// Whether a line is a command as it is.
 fn is_whole(line: &str) -> bool
     ensures { result ≡ is_whole (asked_of Served line.now) }
 {
@@ -96,8 +96,8 @@ fn is_whole(line: &str) -> bool
     }
 }
 
-// Whether this is a command: a script from standard input, or a line that is a command once the lengths of the sources or input
-// words that it takes are written after it.
+// Whether this is a command: a script from standard input, or a line that is a command once the lengths of the sources or input words
+// that it takes are added.
 fn is_command(alloc: Global, line: Option<&str>) -> Result<bool, AllocError>
     ensures { IfOk result (λ is. is ≡ is_command (option_map (λ l. l.now) line.entry)) }
 {
@@ -123,7 +123,7 @@ fn asks_source(line: &str) -> bool
     )
 }
 
-// The source that is given, up to a byte more than it may have.
+// The source that is given; if it is too long, one byte more than it may have.
 fn source<R: Input>(rt: &R, alloc: Global, origin: Origin<'_>) -> io::Result<Vec<u8>> {
     match origin {
         Origin::Input => source_on_input(rt, alloc),
@@ -136,7 +136,7 @@ fn source<R: Input>(rt: &R, alloc: Global, origin: Origin<'_>) -> io::Result<Vec
     }
 }
 
-// The source on standard input, up to a byte more than it may have.
+// The source on standard input; if it is too long, one byte more than it may have.
 fn source_on_input<R: Input>(rt: &R, alloc: Global) -> io::Result<Vec<u8>> {
     let mut reader = rt.reader();
     let mut source = Vec::new(alloc);
@@ -183,7 +183,7 @@ fn source_after<'a, R: Input>(
     Ok(Sent::Source(script, begin, origin))
 }
 
-// What is sent for a line with the source that is expected and the new one; an error if no expected source is given.
+// What is sent for a line with the expected source and the new one; an error if no expected source is given.
 fn sources_after<'a, R: Input>(
     rt: &R,
     alloc: Global,
@@ -202,7 +202,7 @@ fn sources_after<'a, R: Input>(
     Ok(Sent::Source(script, begin, origin))
 }
 
-// What is sent for a line that is a command, with its input words or the source that it expects, if it has one of these.
+// What is sent for a line that is a command, with its input words or the source that it expects, if it has either.
 fn sent_of<'a, R: Input>(
     rt: &R,
     alloc: Global,
@@ -283,7 +283,7 @@ fn put<W: Write>(text: &[u8], writer: &mut W) -> bool
     }
 }
 
-// Explains to a person the fault that an answer reported last; if the fault has a place in the source, this is what `check`
+// Explains to a person the fault that an answer reported last; if the fault has a place in the source, the explanation is what `check`
 // reports about the source.
 fn explain<R: AllocGlobal, E: Write>(
     rt: &R,
@@ -327,8 +327,8 @@ fn explain_source<R: AllocGlobal, E: Write>(
     };
 }
 
-// Writes the line for the fault with which the system refused a call in the folder: 40 if memory ran out, else 56. The result is
-// whether the line was written.
+// Writes the line for a system call in the folder that was refused: 40 if memory ran out, else 56. The result is whether the line was
+// written.
 fn refused<W: Write>(why: &io::Error, writer: &mut W) -> bool
     ensures { SaysRefused result (W.contents writer.old) (W.contents writer.new) [] }
 {
@@ -339,8 +339,8 @@ fn refused<W: Write>(why: &io::Error, writer: &mut W) -> bool
     }
 }
 
-// Writes the line for a fault of the folder, and explains why it came and where the script is. The result is whether the line was
-// written.
+// Writes the line for a fault of the folder, and explains to a person why it came and what is known about the script. The result is
+// whether the line was written.
 fn folder_fault<W: Write, E: Write>(
     folder: &str,
     why: &io::Error,
@@ -363,7 +363,7 @@ fn folder_fault<W: Write, E: Write>(
     is_written
 }
 
-// Does the same for an answer that was not read to its end: what was written of it may have ended within a line.
+// Writes and explains the fault for an answer that was not read to its end: what was written of the answer may end within a line.
 fn cut_short<W: Write, E: Write>(
     folder: &str,
     why: &io::Error,
@@ -378,7 +378,7 @@ fn cut_short<W: Write, E: Write>(
     is_ended && is_written
 }
 
-// Reports that a script was taken back. The result is whether the line was written.
+// Writes that no server took a script, and explains this to a person. The result is whether the line was written.
 fn not_taken<W: Write, E: Write>(asked: &Submitter, writer: &mut W, told: &mut E) -> bool
     ensures { Says result (W.contents writer.old) (W.contents writer.new) (codes "fault 58 NotTaken\n") }
 {
@@ -408,7 +408,7 @@ fn status_of(done: &io::Result<Submission>) -> u8
     }
 }
 
-// Writes what became of a script after its answer, and explains it to a person. The result is whether that was written.
+// After its answer, writes what became of a script, and explains it to a person. The result is whether this was written.
 fn tell<R: AllocGlobal, W: Write, E: Write>(
     rt: &R,
     done: &io::Result<Submission>,
@@ -448,7 +448,7 @@ fn tell<R: AllocGlobal, W: Write, E: Write>(
     }
 }
 
-// Writes what became of a script after its answer, and explains it to a person.
+// After its answer, writes what became of a script, and explains it to a person. Hands back how the command ended.
 fn finish<R: AllocGlobal, W: Write, E: Write>(
     rt: &R,
     done: io::Result<Submission>,
@@ -551,7 +551,7 @@ fn finish_source<R: AllocGlobal, W: Write, E: Write>(
         Ok(Submission::Answered(Some(number))) => {
             finish_fault(rt, number, answer, sent, writer, told)
         }
-        // Nothing of the answer was written.
+        // Nothing of the answer was printed.
         Ok(Submission::CutShort(name, why)) => {
             let lost = Ok(Submission::Lost(name, why));
             finish(rt, lost, asked, sent, writer, told)
@@ -574,7 +574,7 @@ fn leave<R: AllocGlobal + Input, W: Write, E: Write + Drop>(
     ensures { Prints (is_fetch sent.now) result.came (W.contents writer.old) (W.contents writer.new) result.is_written result.status }
 {
     let wait = asked.wait;
-    // The note that the command is waiting goes to a person who sees it, and not to a file.
+    // The note that the command is waiting is for a person who watches, so it does not go to a file.
     told.is_quiet = persons.is_quiet || !persons.is_watched;
     if let Sent::Fetch(_) = sent {
         let mut answer = Vec::new(rt.alloc());
@@ -588,10 +588,10 @@ fn leave<R: AllocGlobal + Input, W: Write, E: Write + Drop>(
 }
 
 /// Leaves a script for the server of a folder, and writes its answer. The result is what became of the script, and the status: 0 if an
-/// answer came, was written whole and reports no fault, 2 if the line is no command, else 1. If the answer is a source, only its bytes
-/// are written. The source of a line that takes one is in the texts, or on standard input; the source that an update expects is
-/// `expected`, and if none is given, the answer is as for a source that can't be read. The only error is that memory ran out before
-/// the command began.
+/// answer came, was written out and reports no fault; 2 if the line is not a command; else 1. If the answer is a source, only its
+/// bytes are written. The source of a line that takes one is in the texts, or on standard input. The source that an update expects is
+/// `expected`; if this is not given, the answer is the one for a source that can't be read. The only error is that memory ran out
+/// before the command began.
 pub fn submit_to<R: AllocGlobal + Input, W: Write, E: Write + Drop>(
     rt: &R,
     layout: &FolderLayout,
@@ -639,9 +639,9 @@ pub fn submit_to<R: AllocGlobal + Input, W: Write, E: Write + Drop>(
     Ok(ended)
 }
 
-/// Leaves a script for the server of a folder, and prints its answer, as `submit_to` does. The result is the status. The source
-/// of a line that takes one is in the files of these names, or on standard input if there are none. If a person sees the answer,
-/// control bytes of it are shown as `?`. The only error is that memory ran out before the command began.
+/// Leaves a script for the server of a folder, and prints its answer, as `submit_to` does. The result is the status. The source of a
+/// line that takes one is in the files with these names, or on standard input if there are none. If a person sees the answer, its
+/// control bytes are shown as `?`. The only error is that memory ran out before the command began.
 pub fn submit_script<R: AllocGlobal + Input, A: Write + Drop, E: Write + Drop>(
     rt: &R,
     files: &HostRuntime,

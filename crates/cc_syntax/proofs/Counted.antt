@@ -1,4 +1,4 @@
--- The count of a full expression never exceeds its limit: the step refuses a token that would.
+-- The count of a full expression never exceeds its limit: the step refuses a token that would exceed it.
 use Rattle.std.proofs.Common.{◌≡◌, ◌<◌, ◌≤◌, ◌∙◌, ℕ, Option, Some, None, Result, Ok, Err, refl, sym, ap, subst, arith, inl, inr}
 use Rattle.cc_syntax.specs.declared.parser.state.Parser as parser
 use Rattle.cc_syntax.specs.declared.parser.state.Stage as stage
@@ -44,7 +44,7 @@ past : (o : Option State) → PassesCount o → (m : State) × (o ≡ Some m) ×
 past None h = absurd h
 past (Some m) h = (m, refl, h)
 
--- a token at which the step stops
+-- if the step stops at a token for the reason `e`, that is the right result of reading the token
 stops : {X : Type 0} (s : State) (x : Lexeme) (p : parser.Parser) (r : Result X stop.Stop) (e : stop.Stop) → Stops e (step s x) → r ≡ Err e → Advances s x r p
 stops {X} s x p r why.Memory h same = subst (λ (z : Result X stop.Stop). Advances s x z p) (sym same) tt
 stops {X} s x p r why.Unexpected h same = subst (λ (z : Result X stop.Stop). Advances s x z p) (sym same) h
@@ -55,14 +55,14 @@ stopped_at {X} s x role p r e same h is =
     let stopped : Stops e (role_step s role (name_of x)) = subst (λ (z : Result X stop.Stop). Gives (role_step s role (name_of x)) z p) is h in
     stops s x p r e (subst (λ (z : Role). Stops e (role_step s z (name_of x))) same stopped) is
 
--- a token that begins something below the deepest level
+-- if the step accepts a token that begins something below level 64, the token exceeds a limit
 pub too_low : {X : Type 0} {v : X} (s : State) (x : Lexeme) (role : Role) (level : ℕ) (p : parser.Parser) (r : Result X stop.Stop) → role ≡ role_of x.kind → level ≡ role_level s role → Gives (role_step s role (name_of x)) r p → r ≡ Ok v → 64 < level → (m : State) × (step s x ≡ Some m) × PassesLimit (standing s x m)
 too_low {X} {v} s x role level p r same at h is low =
     let goes : role_step s role (name_of x) ≡ Some (parser_view p) = subst (λ (z : Result X stop.Stop). Gives (role_step s role (name_of x)) z p) is h in
     let begins : level ≡ level_at s x = at ∙ ap (λ (z : Role). role_level s z) same in
     (parser_view p, ap (λ (z : Role). role_step s z (name_of x)) (sym same) ∙ goes, inr (subst (λ (n : ℕ). 64 < n) begins low))
 
--- a token within the limits
+-- if the step accepts a token that begins nothing below level 64, the token is within the limits
 pub advanced : {X : Type 0} {v : X} (s : State) (x : Lexeme) (role : Role) (level : ℕ) (p : parser.Parser) (r : Result X stop.Stop) → role ≡ role_of x.kind → level ≡ role_level s role → Gives (role_step s role (name_of x)) r p → r ≡ Ok v → level ≤ 64 → (step s x ≡ Some (parser_view p)) × IsWithin (standing s x (parser_view p))
 advanced {X} {v} s x role level p r same at h is high =
     let goes : role_step s role (name_of x) ≡ Some (parser_view p) = subst (λ (z : Result X stop.Stop). Gives (role_step s role (name_of x)) z p) is h in

@@ -1,6 +1,6 @@
 -- Each text has exactly one answer. There is at least one, because a text has tokens or a first error, and the parser runs over
--- the tokens (Verdict). There is at most one, because the text determines its tokens, its error and its tree, and of two tokens
--- that break the grammar or a limit only the earlier one comes first.
+-- the tokens (Verdict). There is at most one, because the text determines its tokens, its error and its tree, and only one
+-- token is the first that breaks the grammar or a limit.
 use Rattle.std.proofs.Common.{◌≡◌, ◌<◌, ◌≤◌, ◌+◌, ◌⊎◌, inl, inr, ℕ, zero, suc, List, [], ◌∷◌, ◌++◌, length, take, drop, get_or, Option, Some, None, Result, Ok, Err, refl, sym, ap, subst, ◌∙◌, arith, append_assoc}
 use Rattle.std.proofs.lemmas.List.{map-append, take-append-drop, take_all}
 use Rattle.std.proofs.lemmas.Bool.{cases_lt, cases_order}
@@ -41,7 +41,7 @@ record Broken (text : List ℕ) (f : SyntaxFault) : Type 0 where
   before : IsFineBefore tokens number
   here : RefusedAt text tokens number f
 
--- the three kinds of refusals
+-- the three reasons for a refusal: the text is too long, it has a lexical error, or one of its tokens is refused
 data Kind (text : List ℕ) (f : SyntaxFault) : Type 0 where
   long : f ≡ fault.SourceTooLarge → 65536 < length text → Kind text f
   erroneous : IsLexicalFault text f → Kind text f
@@ -67,7 +67,7 @@ error_one text e f h k =
 plain_append : (a b : List Measured) → plain_tokens (a ++ b) ≡ plain_tokens a ++ plain_tokens b
 plain_append a b = map-append (λ (p : Measured). p.token) a b
 
--- if some unit begins with the first m tokens, one begins with the first n
+-- if some unit begins with the first m tokens, that unit also begins with the first n, for each n up to m
 begins_prefix : (tokens : List Lexeme) (n m : ℕ) → n ≤ m → Begins (take m tokens) → Begins (take n tokens)
 begins_prefix tokens n m h b =
     let cut : take m tokens ≡ take n tokens ++ drop n (take m tokens) =
@@ -133,7 +133,7 @@ kinds_one text f g (broken h) (long i k) = let fits = h.fits in absurd (omega ar
 kinds_one text f g (broken h) (erroneous k) = absurd (tokens_have_no_error text h.tokens k.error k.at h.are k.first)
 kinds_one text f g (broken h) (broken k) = broken_one text f g h k
 
--- a text that spells a tree has no refusal
+-- a text that spells a tree is never refused
 not_refused : (text : List ℕ) (tree : List External) (f : SyntaxFault) → IsParseAnswer text (Ok tree) → Kind text f → ⊥
 not_refused text tree f s (long e h) = let fits = s.0 in omega arith
 not_refused text tree f s (erroneous h) = tokens_have_no_error text s.1.tokens h.error h.at s.1.are h.first
@@ -175,7 +175,7 @@ module _ (text : List ℕ) (tokens : List Lexeme) (fits : length text ≤ 65536)
   unfolding Answers
   tree_answers tree spelled = (Ok tree, (fits, record { tokens = tokens; are = are; spelled = spelled }))
 
-  -- there is an answer after the last token
+  -- if the parser has read all tokens, the text has an answer
   at_end : (s : State) (o : Option (List External)) → tree_of s ≡ o → Reached s tokens → Answers text
   at_end s (Some tree) e r =
       let unit = unit_state s tree e in
@@ -201,7 +201,7 @@ module _ (text : List ℕ) (tokens : List Lexeme) (fits : length text ≤ 65536)
   abbrev token_number : ℕ → Lexeme
   token_number k = get_or tokens k no_token
 
-  -- there is an answer at token number k, if there is one in each state after it
+  -- if the parser comes to token number k, the text has an answer, provided it has one in each state after that token
   at_token : (k : ℕ) (s : State) → k < length tokens → Reached s (take k tokens) → ((m : State) → Reached m (take (suc k) tokens) → Answers text) → Answers text
   at_token k s inside r on = by (step s (token_number k)) refl
     where
@@ -213,7 +213,7 @@ module _ (text : List ℕ) (tokens : List Lexeme) (fits : length text ≤ 65536)
       by None h = unexpected_answers k (fine_before s tokens k r) (unexpected s tokens k (token_number k) r (cut_here k inside) h)
       by (Some m) h = by_limits m h (within_or_past (standing s (token_number k) m))
 
-  -- there is an answer if n tokens are left
+  -- if the parser has read all but n of the tokens, the text has an answer
   from : (n k : ℕ) (s : State) → k + n ≡ length tokens → Reached s (take k tokens) → Answers text
   from zero k s e r = at_end s (tree_of s) refl (subst (λ (z : List Lexeme). Reached s z) (take_all k tokens (omega arith)) r)
   from (suc n) k s e r = at_token k s (omega arith) r (λ m next. from n (suc k) m (omega arith) next)

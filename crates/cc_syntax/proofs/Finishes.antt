@@ -27,7 +27,7 @@ abbrev pub IsUnit : List External → Type 0
 IsUnit [] = ⊥
 IsUnit (e ∷ es) = Unit {0}
 
--- some tokens lead to the end of a unit
+-- some tokens lead from the state to the end of a unit
 pub record Finishes (s : State) : Type 0 where
   pub rest : List Measured
   pub tree : List External
@@ -108,7 +108,7 @@ finish_top b h =
 abbrev zero_of : Expr
 zero_of = Number scalar.Int 0
 
--- after a complete statement: by induction on the open statements
+-- a unit can be finished after a complete statement, by induction on the open statements
 finish_settled : (os : List Open) (w : Bool) (b : Inside) (s : Stmt) → Finishes (in_body (settled w b os s))
 finish_settled [] w b s = finish_top (record { externals = b.externals; signature = b.signature; finished = with_last b.finished s; opened = [] }) refl
 finish_settled (InBlock ss ∷ os) w b s =
@@ -161,7 +161,7 @@ finish_stepped b op t p k = by _ (behind b p (Step op t)) (terminator p) (acted-
 
 -- full expressions
 
--- a token that ends the whole full expression, and the state after it
+-- a token that ends the whole full expression, and the state after that token
 record EndsWhole (c : Context) (n : ℕ) (e : Expr) : Type 0 where
   last : TokenKind
   after : State
@@ -204,7 +204,7 @@ record Ends (c : Context) (n : ℕ) (ws : List Waiting) (e : Expr) : Type 0 wher
 end_token : (c : Context) (n : ℕ) (ws : List Waiting) (e : Expr) → Ends c n ws e → Finishes (operator c n ws e)
 end_token c n ws e h = by _ h.after h.last (h.closes (full_of c ws n) e ∙ h.goes ws) h.finishes
 
--- what ends an expression also ends one that reduces to the same
+-- a token that ends an expression also ends one that reduces to the same expression
 earlier : (c : Context) (n : ℕ) (ws us : List Waiting) (e d : Expr) → reduced 1 us d ≡ reduced 1 ws e → Ends c n ws e → Ends c n us d
 earlier c n ws us e d same h =
     record { last = h.last; after = h.after; closes = h.closes; goes = λ vs. ap (λ (r : Expr × List Waiting). close (full_of c vs n) (role_of h.last) r) same ∙ h.goes vs; finishes = h.finishes }

@@ -13,7 +13,7 @@ operand c n ws = InFull (full_of c ws n) Operand
 abbrev pub operator : Context → ℕ → List Waiting → Expr → State
 operator c n ws e = InFull (full_of c ws n) (Operator e)
 
--- the count after the tokens of a list
+-- the count after the tokens of a list, if `n` tokens were counted before them
 abbrev pub count_after : ℕ → List Lexeme → ℕ
 count_after n [] = n
 count_after n (x ∷ xs) = count_after (suc n) xs
@@ -26,11 +26,12 @@ pub full_after-append : (n : ℕ) (xs ys : List Lexeme) → full_after n (xs ++ 
 full_after-append n [] ys = refl
 full_after-append n (x ∷ xs) ys = ap (λ (ps : List Measured). record { token = x; count = suc n; level = 0 } ∷ ps) (full_after-append (suc n) xs ys)
 
--- a run over two parts of one full expression
+-- runs over two consecutive parts of a full expression make one run over both
 pub runs-full : (s m e : State) (n : ℕ) (xs ys : List Lexeme) → Runs s (full_after n xs) m → Runs m (full_after (count_after n xs) ys) e → Runs s (full_after n (xs ++ ys)) e
 runs-full s m e n xs ys h k = subst (λ (ps : List Measured). Runs s ps e) (sym (full_after-append n xs ys)) (runs-append s m e (full_after n xs) (full_after (count_after n xs) ys) h k)
 
--- the two cases of a reduction: a pending part binds at least as tightly as the level, or does not
+-- the two cases of a reduction: a pending part binds at least as tightly as the level (`pops`), or it does
+-- not (`keeps`)
 pub pops : {A : Type 0} (q t : ℕ) (x y : A) → q ≤ t → cond (leb q t) x y ≡ x
 pops q t x y h = ap (λ v. cond v x y) (le-leb q t h)
 

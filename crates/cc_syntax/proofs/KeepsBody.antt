@@ -1,4 +1,4 @@
--- Reading a token extends what the tokens so far spell: in a function's body, outside full expressions (first part).
+-- Reading a token in a function's body, outside full expressions, extends what the tokens so far spell (first part).
 use Rattle.std.proofs.Common.{◌≡◌, ℕ, Bool, true, false, suc, List, [], ◌∷◌, ◌++◌, Option, Some, refl, sym, ap, subst, ◌∙◌, append_assoc}
 use Rattle.std.proofs.lemmas.Bool.{false≢true}
 use Rattle.std.proofs.lemmas.List.{append-nil}

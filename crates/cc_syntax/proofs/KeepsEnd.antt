@@ -17,7 +17,7 @@ use Rattle.cc_syntax.proofs.KeepsBody.{regrouped, can-statement}
 use Rattle.cc_syntax.proofs.SoFarUnit.{FullSoFar, Kept, leads_of}
 use Rattle.cc_syntax.proofs.KeepsContext.{kept-settle, kept-acted, kept-tested}
 
--- rows with one more part
+-- a row extended by one part
 
 row-last : {A : Type 0} (S : List Measured → A → Type 0) (done : List A) (a : A) (ts one : List Measured) (comma : Lexeme) → SpellsRow S ts done → Marks punctuator.Comma comma → S one a → SpellsRow S (ts ++ outside comma ∷ one) (done ++ a ∷ [])
 row-last S [] a ts one comma h m k = absurd h
@@ -39,7 +39,7 @@ row-comma S done ts comma h m = inr (ts, comma, h, m, refl)
 pub deep : (before others names behind more : List Measured) (p : Measured) → (before ++ (p ∷ (others ++ (names ++ behind)))) ++ more ≡ before ++ (p ∷ (others ++ (names ++ (behind ++ more))))
 deep before others names behind more p = simp append_assoc
 
--- a declared name with its initialiser is complete
+-- the token that completes a declared name with its initialiser extends what the tokens spell
 pub kept-declared : (w : Position) (b : Inside) (t : Scalar) (ds : List Declarator) (v : Name) (i : Option Expr) (initial before mine ts : List Measured) (x : Lexeme) (behind : List Measured) → Marks punctuator.Semicolon x → BodySoFar b.externals b.signature b.finished b.opened before → NamedSoFar w t ds behind b.opened mine → SpellsInitial initial i → behind ++ outside x ∷ [] ≡ outside (identifier v) ∷ initial ++ outside x ∷ [] → ts ++ outside x ∷ [] ≡ before ++ (mine ++ outside x ∷ []) → Kept (declares b w t (ds ++ declared v i ∷ [])) ts x 0
 kept-declared w b t ds v i initial before mine ts x behind h k n s same e =
     let names = n.1 in
@@ -58,7 +58,7 @@ kept-declared w b t ds v i initial before mine ts x behind h k n s same e =
     finish AsLocal inner start d g = kept-settle b (Local t (ds ++ declared v i ∷ [])) before (start ++ inner) ts x 0 k d.0 d.1 tt g
     finish AsHeader inner start d g = (before, start ++ inner, k, d, g)
 
--- the tokens of a full expression, with one more token
+-- the tokens of a full expression are extended by one token
 pub pushed-tokens : (c : Context) (ws : List Waiting) (k : ℕ) (p : Phase) (ts : List Measured) (x : Lexeme) → (h : FullSoFar c ws k p ts) → ts ++ record { token = x; count = suc k; level = 0 } ∷ [] ≡ h.before ++ leads_of c (full (h.prefix ++ (h.xs ++ x ∷ [])))
 pushed-tokens c ws k p ts x h =
     let y : Measured = record { token = x; count = suc k; level = 0 } in
@@ -68,12 +68,11 @@ pushed-tokens c ws k p ts x h =
     ∙ ap (λ (j : ℕ). old ++ record { token = x; count = suc j; level = 0 } ∷ []) (sym h.counted) in
     regrouped ts h.before (leads_of c old) (y ∷ []) h.whole ∙ ap (λ (z : List Measured). h.before ++ z) (sym (h.joins (y ∷ []))) ∙ ap (λ (z : List Measured). h.before ++ leads_of c z) (sym tokens)
 
--- a named object of a declaration, with its value
 valued : (w : Position) (t : Scalar) (ds : List Declarator) (os : List Open) (mine : List Measured) (v : Name) (sign : Lexeme) (value : List Measured) → NamedSoFar w t ds (outside (identifier v) ∷ outside sign ∷ []) os mine → NamedSoFar w t ds (outside (identifier v) ∷ outside sign ∷ value) os (mine ++ value)
 valued w t ds os mine v sign value n =
     (n.0, n.1, n.2, n.3, n.4, n.5, n.6, ap (λ (z : List Measured). z ++ value) n.7 ∙ deep n.0 (map outside n.3) n.1 (outside (identifier v) ∷ outside sign ∷ []) value (first (position_level w os) 0 n.2))
 
--- a declared name with its initialiser, which another name follows
+-- a declared name and its initialiser, with a comma after them, extend what the tokens of a declaration spell
 pub next-declared : (w : Position) (t : Scalar) (ds : List Declarator) (os : List Open) (mine : List Measured) (v : Name) (i : Option Expr) (initial : List Measured) (x : Lexeme) → Marks punctuator.Comma x → SpellsInitial initial i → NamedSoFar w t ds (outside (identifier v) ∷ initial) os mine → NamedSoFar w t (ds ++ declared v i ∷ []) [] os (mine ++ outside x ∷ [])
 next-declared w t ds os mine v i initial x h s n =
     let one : List Measured = outside (identifier v) ∷ initial in
@@ -86,7 +85,7 @@ next-declared w t ds os mine v i initial x h s n =
     ∙ ap (λ (z : List Measured). n.0 ++ (p ∷ (map outside n.3 ++ z))) grouped in
     (n.0, names, n.2, n.3, n.4, n.5, row-comma SpellsDeclarator (ds ++ declared v i ∷ []) (n.1 ++ one) x row h, tokens)
 
--- the token after a full expression in a body
+-- the token after a full expression in a body extends what the tokens spell
 pub kept-end : (p : Purpose) (r : Role) (b : Inside) (ws : List Waiting) (n : ℕ) (q : Phase) (e : Expr) (ts : List Measured) (x : Lexeme) → HasRole r x → (h : FullSoFar (OfBody b p) ws n q ts) → SpellsExpression 1 h.xs e → Kept (end_in_body b p n e r) ts x 0
 kept-end (ToPerform s) r b ws n q e ts x h f k =
     let c = f.context in

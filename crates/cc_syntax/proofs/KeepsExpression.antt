@@ -1,4 +1,4 @@
--- When a pending part takes its operand, the tokens still spell the expression.
+-- Once a pending part is completed with its operand, the tokens still spell the expression.
 use Rattle.std.proofs.Common.{◌≡◌, ◌≤◌, ℕ, suc, List, [], ◌∷◌, ◌++◌, refl, sym, ap, subst, ◌∙◌, arith, append_assoc, inl, inr}
 use Rattle.std.proofs.lemmas.Bool.Decides.{leb_tells}
 use Rattle.cc_tokens.specs.Token.{Lexeme}
@@ -21,7 +21,7 @@ spells-looser (Cast t e) l m xs h s = s
 spells-looser (Binary op a c) l m xs h s = (s.0, s.1, s.2, omega (arith, s.3, h), s.4, s.5, s.6, s.7)
 spells-looser (Conditional c a b) l m xs h s = (s.0, s.1, s.2, s.3, s.4, omega (arith, s.5, h), s.6, s.7, s.8, s.9, s.10, s.11)
 
--- an operand without a bare operator fits everywhere
+-- an expression of level 12 fits after any pending parts
 pub room-most : (ws : List Waiting) → Room 12 ws
 room-most [] = omega arith
 room-most (Parenthesis ∷ ws) = omega arith
@@ -33,7 +33,7 @@ room-most (Infix op a ∷ ws) = let range = precedence-within op in omega (arith
 room-most (Then c ∷ ws) = omega arith
 room-most (Otherwise c a ∷ ws) = omega arith
 
--- if the loosest binary expression fits, a conditional one does too
+-- if an expression of level 2 fits after the pending parts, one of level 1 does too
 pub room-one : (ws : List Waiting) → Room 2 ws → Room 1 ws
 room-one [] h = omega arith
 room-one (Parenthesis ∷ ws) h = omega arith
@@ -45,12 +45,13 @@ room-one (Infix op a ∷ ws) h = let range = precedence-within op in absurd (ome
 room-one (Then c ∷ ws) h = omega arith
 room-one (Otherwise c a ∷ ws) h = omega arith
 
--- an operand after the reduction before an operator of the level: no pending part that is left binds as tightly
+-- after a reduction for an operator of the level, the operand is spelled, and no part that is still pending
+-- binds as tightly
 pub record Reduces (level : ℕ) (xs : List Lexeme) (r : Expr × List Waiting) : Type 0 where
   pub holds : Holds r.1 r.0 xs level
   pub room : Room level r.1
 
--- the tokens of a pending part and of its operand, joined
+-- the tokens of a pending part and of its operand can be grouped together
 regrouped : (xs prefix part rest more : List Lexeme) → xs ≡ prefix ++ part → prefix ≡ rest ++ more → xs ≡ rest ++ (more ++ part)
 regrouped xs prefix part rest more h k = h ∙ ap (λ (z : List Lexeme). z ++ part) k ∙ append_assoc rest more part
 

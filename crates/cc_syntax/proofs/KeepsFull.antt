@@ -15,7 +15,7 @@ use Rattle.cc_syntax.proofs.KeepsExpression.{spells-looser, room-most, room-one,
 pub identified : (x : Lexeme) → x.kind ≡ kind.Identifier → x ≡ identifier (name_of x)
 identified x h = ap (λ (k : TokenKind). let y : Lexeme = record { kind = k; text = x.text; at = x.at } in y) h
 
--- an expression has at least one token
+-- the list has at least one token
 abbrev pub HasToken : List Lexeme → Type 0
 HasToken xs = (y : Lexeme) × (ys : List Lexeme) × (xs ≡ y ∷ ys)
 
@@ -34,7 +34,7 @@ has_token (Cast t e) l xs h = (h.0, h.2 ++ h.1 ∷ h.3, h.8)
 has_token (Binary op a b) l xs h = subst (λ (z : List Lexeme). HasToken z) (sym h.7) (append-token h.1 h.2 h.0)
 has_token (Conditional c a b) l xs h = subst (λ (z : List Lexeme). HasToken z) (sym h.11) (append-token h.2 (h.3 ++ h.1 ∷ h.4) h.0)
 
--- an operand of one token
+-- if the token `x` spells an operand, the tokens with `x` spell the pending parts and that operand
 pub holds-one : (e : Expr) (ws : List Waiting) (xs : List Lexeme) (x : Lexeme) → SpellsExpression 12 (x ∷ []) e → WaitingSoFar ws xs → Holds ws e (xs ++ x ∷ []) 12
 holds-one e ws xs x h w = record { prefix = xs; part = x ∷ []; level = 12; waits = w; spelled = h; room = room-most ws; tight = omega arith; whole = refl }
 
@@ -44,19 +44,19 @@ looser ws e xs q low h = record { prefix = h.prefix; part = h.part; level = h.le
 behind : (xs prefix part : List Lexeme) (x : Lexeme) → xs ≡ prefix ++ part → xs ++ x ∷ [] ≡ prefix ++ (part ++ x ∷ [])
 behind xs prefix part x h = ap (λ (z : List Lexeme). z ++ x ∷ []) h ∙ append_assoc prefix part (x ∷ [])
 
--- a binary operator after its left operand
+-- after its left operand, a binary operator extends what the tokens spell
 pub kept-binary : (op : BinaryOperator) (r : Expr × List Waiting) (xs : List Lexeme) (x : Lexeme) → Marks (binary_punctuator op) x → Reduces (precedence op) xs r → WaitingSoFar (Infix op r.0 ∷ r.1) (xs ++ x ∷ [])
 kept-binary op r xs x h k =
     let l = k.holds in
     (l.prefix, l.part, x, l.waits, spells-looser r.0 l.level (precedence op) l.part l.tight l.spelled, k.room, h, behind xs l.prefix l.part x l.whole)
 
--- a question mark after its condition
+-- after its condition, a question mark extends what the tokens spell
 pub kept-question : (r : Expr × List Waiting) (xs : List Lexeme) (x : Lexeme) → Marks punctuator.Question x → Reduces 2 xs r → WaitingSoFar (Then r.0 ∷ r.1) (xs ++ x ∷ [])
 kept-question r xs x h k =
     let l = k.holds in
     (l.prefix, l.part, x, l.waits, spells-looser r.0 l.level 2 l.part l.tight l.spelled, room-one r.1 k.room, h, behind xs l.prefix l.part x l.whole)
 
--- a colon after the operand that follows the question mark
+-- after the operand that follows the question mark, a colon extends what the tokens spell
 pub kept-colon : (c e : Expr) (ws : List Waiting) (xs : List Lexeme) (x : Lexeme) → Marks punctuator.Colon x → Holds (Then c ∷ ws) e xs 1 → WaitingSoFar (Otherwise c e ∷ ws) (xs ++ x ∷ [])
 kept-colon c e ws xs x h l =
     let w = l.waits in
@@ -76,7 +76,7 @@ kept-colon c e ws xs x h l =
       behind xs l.prefix l.part x l.whole ∙ ap (λ (z : List Lexeme). z ++ (l.part ++ x ∷ [])) w.7 ∙ grouped,
     )
 
--- an operand whose closing token has been read
+-- once its closing token has been read, an operand in brackets or parentheses is spelled
 closed : (e d : Expr) (ws : List Waiting) (xs prefix inner part ys : List Lexeme) (x : Lexeme) → WaitingSoFar ws prefix → xs ≡ ys ++ part → ys ≡ prefix ++ inner → SpellsExpression 12 (inner ++ (part ++ x ∷ [])) d → Holds ws d (xs ++ x ∷ []) 12
 closed e d ws xs prefix inner part ys x w h k s =
     record {
@@ -102,7 +102,7 @@ kept-index n e ws xs x h l =
     closed e (Element n e) ws xs w.0 (identifier n ∷ w.1 ∷ []) l.part l.prefix x w.2 l.whole w.4
     (w.1, x, l.part, w.3, h, spells-looser e l.level 1 l.part l.tight l.spelled, refl)
 
--- arguments with one more argument
+-- the tokens of an argument after those of earlier arguments spell the extended list
 arguments-last : (es : Exprs) (e : Expr) (xs part : List Lexeme) → ArgumentsSoFar xs es → SpellsExpression 1 part e → SpellsArguments (xs ++ part) (with_argument es e)
 arguments-last none e xs part h k = subst (λ (z : List Lexeme). SpellsExpression 1 (z ++ part) e) (sym h) k
 arguments-last (more d es) e xs part h k =
@@ -120,7 +120,7 @@ arguments-some : (es : Exprs) (e : Expr) (xs prefix : List Lexeme) (x : Lexeme) 
 arguments-some none e xs prefix x h k s = (prefix, x, h, k, s)
 arguments-some (more d es) e xs prefix x h k s = (prefix, x, h, k, s)
 
--- a comma between arguments
+-- a comma between arguments extends what the tokens spell
 pub kept-comma : (n : Name) (es : Exprs) (e : Expr) (ws : List Waiting) (xs : List Lexeme) (x : Lexeme) → Marks punctuator.Comma x → Holds (Arguments n es ∷ ws) e xs 1 → WaitingSoFar (Arguments n (with_argument es e) ∷ ws) (xs ++ x ∷ [])
 kept-comma n es e ws xs x h l =
     let w = l.waits in
@@ -137,7 +137,7 @@ kept-comma n es e ws xs x h l =
       behind xs l.prefix l.part x l.whole ∙ ap (λ (z : List Lexeme). z ++ (l.part ++ x ∷ [])) w.6 ∙ grouped,
     )
 
--- the closing parenthesis of a call
+-- the closing parenthesis of a call extends what the tokens spell
 pub kept-call : (n : Name) (es : Exprs) (e : Expr) (ws : List Waiting) (xs : List Lexeme) (x : Lexeme) → Marks punctuator.CloseParenthesis x → Holds (Arguments n es ∷ ws) e xs 1 → Holds ws (Call n (with_argument es e)) (xs ++ x ∷ []) 12
 kept-call n es e ws xs x h l =
     let w = l.waits in
@@ -159,7 +159,7 @@ kept-call-none n ws xs x h w =
       whole = behind xs w.0 (identifier n ∷ w.2 ∷ []) x whole;
     }
 
--- a parenthesis or bracket after a name
+-- if the operand is a name, the tokens spell the pending parts and then that name
 variable-part : (n : Name) (ws : List Waiting) (xs : List Lexeme) → Holds ws (Variable n) xs 12 → (prefix : List Lexeme) × WaitingSoFar ws prefix × (xs ≡ prefix ++ identifier n ∷ [])
 variable-part n ws xs l = (l.prefix, l.waits, l.whole ∙ ap (λ (z : List Lexeme). l.prefix ++ z) l.spelled)
 

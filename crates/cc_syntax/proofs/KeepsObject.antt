@@ -1,4 +1,4 @@
--- At file scope: a complete external declaration, a complete object, and the token that ends a constant expression extend what
+-- At file scope, a complete external declaration, a complete object, and the token that ends a constant expression extend what
 -- the tokens so far spell.
 use Rattle.std.proofs.Common.{◌≡◌, ℕ, List, [], ◌∷◌, ◌++◌, map, Option, Some, refl, sym, ap, subst, ◌∙◌, append_assoc, inl, inr}
 use Rattle.std.proofs.lemmas.List.{append-nil}
@@ -22,13 +22,13 @@ externals-last : (es : List External) (e : External) (ts us : List Measured) →
 externals-last [] e ts us h k = (us, [], k, refl, ap (λ (z : List Measured). z ++ us) h ∙ sym (append-nil us))
 externals-last (d ∷ ds) e ts us h k = (h.0, h.1 ++ us, h.2, externals-last ds e h.1 us h.3 k, regrouped ts h.0 h.1 us h.4)
 
--- the last token of an external declaration
+-- the last token of an external declaration extends what the tokens spell
 pub kept-external : (es : List External) (e : External) (before mine ts : List Measured) (x : Lexeme) → SpellsExternals before es → ts ≡ before ++ mine → SpellsExternal (mine ++ outside x ∷ []) e → Kept (Some (AtFile (es ++ e ∷ []) Between)) ts x 0
 kept-external es e before mine ts x h k s =
     let inner = mine ++ outside x ∷ [] in
     (before ++ inner, [], externals-last es e before inner h s, refl, regrouped ts before mine (outside x ∷ []) k ∙ sym (append-nil (before ++ inner)))
 
--- a token after which the external declaration continues
+-- a token after which the external declaration continues extends what the tokens spell
 pub kept-file : (es : List External) (o : Outer) (before mine ts : List Measured) (x : Lexeme) → SpellsExternals before es → ts ≡ before ++ mine → OuterSoFar o (mine ++ outside x ∷ []) → Kept (Some (AtFile es o)) ts x 0
 kept-file es o before mine ts x h k s = (before, mine ++ outside x ∷ [], h, s, regrouped ts before mine (outside x ∷ []) k)
 
@@ -39,7 +39,7 @@ naming-more n behind mine more h =
     let one : List Measured = outside (identifier n.name) ∷ behind in
     (h.0, h.1, h.2, h.3, regrouped mine (map outside h.0) (h.1 ++ one) more h.4 ∙ ap (λ (z : List Measured). map outside h.0 ++ z) (append_assoc h.1 one more))
 
--- the named object is complete
+-- once the named object is complete, the tokens spell it after the earlier objects
 pub object-done : (n : Naming) (o : Object) (behind mine : List Measured) → NamingSoFar n behind mine → SpellsName n.kind (outside (identifier n.name) ∷ behind) o → ObjectsSoFar n.kind (λ row. SpellsRow (SpellsName n.kind) row (with_object n o)) [] mine
 object-done n o behind mine h k =
     let one : List Measured = outside (identifier n.name) ∷ behind in
@@ -50,7 +50,7 @@ pub single-spelled : (t : ObjectKind) (ts : List Measured) (v : Name) (e : Optio
 single-spelled (Words t) ts v e w h = h
 single-spelled Bytes ts v e w h = absurd w
 
--- an array occurs in a declaration of words and in one of `unsigned char`
+-- an array may occur in a declaration of words or of `unsigned char`
 pub array-spelled : (t : ObjectKind) (ts : List Measured) (v : Name) (size : Option ConstantExpr) (values : List ConstantExpr) → SpellsArray ts v size values → SpellsName t ts (array_of t v size values)
 array-spelled (Words t) ts v size values h = h
 array-spelled Bytes ts v size values h = h
@@ -60,7 +60,7 @@ objects-spelled : (t : ObjectKind) (ts : List Measured) (os : List Object) → S
 objects-spelled (Words t) ts os h = inl h
 objects-spelled Bytes ts os h = inr (refl, h)
 
--- the token after a complete object
+-- the token after a complete object extends what the tokens spell
 pub kept-separated : (r : Role) (es : List External) (t : ObjectKind) (os : List Object) (before mine ts : List Measured) (x : Lexeme) → HasRole r x → SpellsExternals before es → ObjectsSoFar t (λ row. SpellsRow (SpellsName t) row os) [] mine → ts ≡ before ++ mine → Kept (separated es t os r) ts x 0
 kept-separated role.Comma es t os before mine ts x h k o e =
     let row = o.1 ++ outside x ∷ [] in
@@ -80,7 +80,7 @@ list-spelled : (vs : List ConstantExpr) (sign opening closing : Lexeme) (row : L
 list-spelled [] sign opening closing row comma h k m s c = absurd s
 list-spelled (v ∷ vs) sign opening closing row comma h k m s c = (sign, opening, closing, row, comma, h, k, m, s, c, refl)
 
--- an array's list is complete
+-- once the list of a named array is complete, the tokens spell the array after the earlier objects
 pub array-done : (n : Naming) (size : Option ConstantExpr) (vs us : List ConstantExpr) (mine more row : List Measured) (comma : List Lexeme) (x : Lexeme) → (h : OuterSoFar (Valuing n size vs) mine) → Marks punctuator.CloseBrace x → SpellsRow SpellsConstantExpr row us → IsOptionalComma comma → h.5 ++ more ≡ row ++ (map outside comma ++ outside x ∷ []) → ObjectsSoFar n.kind (λ r. SpellsRow (SpellsName n.kind) r (with_object n (array_of n.kind n.name size us))) [] (mine ++ more)
 array-done n size vs us mine more row comma x h m s c e =
     let list : List Measured = outside h.2 ∷ outside h.3 ∷ row ++ (map outside comma ++ outside x ∷ []) in
@@ -125,7 +125,7 @@ kept-value role.CloseBrace es n size vs v before mine value ts x h k o s e =
     )
 kept-value _ es n size vs v before mine value ts x h k o s e = tt
 
--- the token after a constant expression
+-- the token after a constant expression extends what the tokens spell
 pub kept-constant : (p : Part) (r : Role) (es : List External) (n : Naming) (ws : List Waiting) (k : ℕ) (q : Phase) (e : Expr) (ts : List Measured) (x : Lexeme) → HasRole r x → (f : FullSoFar (OfObject es n p) ws k q ts) → SpellsExpression 1 f.xs e → Kept (end_in_object es n p e r) ts x 0
 kept-constant (ToSize at) role.CloseBracket es n ws k q e ts x h f s =
     let c = f.context.1 in

@@ -24,7 +24,7 @@ use Rattle.cc_syntax.proofs.KeepsContext.{kept-stays}
 use Rattle.cc_syntax.proofs.KeepsEnd.{kept-end, pushed-tokens}
 use Rattle.cc_syntax.proofs.KeepsObject.{kept-constant}
 
--- if an action is a statement, its first token has the level
+-- tokens appended to those of an action do not change the level of its first token
 pub leads-joins : (p : Spot) (os : List Open) (x : Lexeme) (xs : List Lexeme) (qs : List Measured) → leads p os (full (x ∷ xs) ++ qs) ≡ leads p os (full (x ∷ xs)) ++ qs
 leads-joins AsStatement os x xs qs = refl
 leads-joins AsStart os x xs qs = refl
@@ -38,7 +38,8 @@ first-joins : (c : Context) (x : Lexeme) (qs : List Measured) → leads_of c (fu
 first-joins (OfBody b p) x qs = leads-joins (spot_of p) b.opened x [] qs
 first-joins (OfObject es n p) x qs = refl
 
--- the state before an operand, if only the tokens `zs` of the same full expression precede the operand's expression
+-- the tokens spell what the state before an operand says, if `zs` are all tokens of the full expression that
+-- precede the operand's expression
 pub begun : (b : Inside) (p : Purpose) (k : ℕ) (before ts : List Measured) (zs : List Lexeme) → ContextSoFar (OfBody b p) before zs → k ≡ count_after 0 zs → ((qs : List Measured) → leads (spot_of p) b.opened (full zs ++ qs) ≡ leads (spot_of p) b.opened (full zs) ++ qs) → ts ≡ before ++ leads (spot_of p) b.opened (full zs) → FullSoFar (OfBody b p) [] k Operand ts
 begun b p k before ts zs h c j w =
     let same : zs ≡ zs ++ [] = sym (append-nil zs) in
@@ -110,7 +111,7 @@ target-spelled (Variable n) xs h = h
 target-spelled (Element n e) xs h = h
 target-spelled _ xs h = tt
 
--- the tokens of an action, with one more token
+-- the tokens of an action are extended by one token
 action-tokens : (b : Inside) (p : Spot) (ws : List Waiting) (k : ℕ) (q : Phase) (ts : List Measured) (x : Lexeme) → (h : FullSoFar (OfBody b (ToPerform p)) ws k q ts) → (ts ++ record { token = x; count = suc k; level = 0 } ∷ [] ≡ h.before ++ leads p b.opened (full (h.xs ++ x ∷ []))) × (suc k ≡ count_after 0 (h.xs ++ x ∷ []))
 action-tokens b p ws k q ts x h =
     let none = h.context.3.0 in (
@@ -152,7 +153,7 @@ kept-step [] c k e op ts x h f =
     kept-steps c (target_of e) [] k (Operator e) op ts x h f (has_token e 1 f.xs whole) (target-spelled e f.xs whole)
 kept-step (w ∷ ws) c k e op ts x h f = tt
 
--- a token after an operand
+-- a token after an operand extends what the tokens spell
 kept-operator : (r : Role) (f : Full) (e : Expr) (ts : List Measured) (x : Lexeme) → HasRole r x → FullSoFar f.context f.waiting f.count (Operator e) ts → Kept (operator_step f e r) ts x 0
 kept-operator role.Plus f e ts x h k = kept-infix binary.Add f e ts x h k
 kept-operator role.Minus f e ts x h k = kept-infix binary.Subtract f e ts x h k
@@ -168,7 +169,7 @@ kept-operator r f e ts x h k =
     let q = reduced 1 f.waiting e in
     kept-closing q.1 q.0 r f (Operator e) ts x h k (reduced-for f e k.xs 1 (omega arith) (omega arith) k.phase).holds
 
--- a token in a full expression
+-- a token in a full expression extends what the tokens spell
 pub kept-full : (p : Phase) (f : Full) (r : Role) (ts : List Measured) (x : Lexeme) → HasRole r x → FullSoFar f.context f.waiting f.count p ts → Kept (full_step f p r (name_of x)) ts x 0
 kept-full Operand f r ts x h k = kept-stays (operand_step f r (name_of x)) f Operand ts x k (kept-operand r f k.xs x h k.phase)
 kept-full (Operator e) f r ts x h k = kept-operator r f e ts x h k

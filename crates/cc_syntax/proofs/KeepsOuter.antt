@@ -1,4 +1,4 @@
--- Reading a token extends what the tokens so far spell: at file scope, outside full expressions.
+-- Reading a token at file scope, outside full expressions, extends what the tokens so far spell.
 use Rattle.std.proofs.Common.{◌≡◌, Bool, true, false, List, [], ◌∷◌, ◌++◌, map, Option, Some, None, is_some, refl, sym, ap, subst, ◌∙◌, append_assoc, inl, inr}
 use Rattle.std.proofs.lemmas.Bool.{false≢true, and_parts}
 use Rattle.std.proofs.lemmas.List.{append-nil}
@@ -105,7 +105,7 @@ kept-listing role.OpenBrace n size es before mine ts x h k o e =
     kept-file es (Valuing n size []) before mine ts x k e (o.0, o.1, o.2, x, o.3, [], o.4, o.5, o.6, o.7, h, inl (refl, refl), naming)
 kept-listing _ n size es before mine ts x h k o e = tt
 
--- the closing brace of an initialiser list, after a comma
+-- after a comma, the closing brace of an initialiser list extends what the tokens spell
 kept-list-end : (vs : List ConstantExpr) (n : Naming) (size : Option ConstantExpr) (es : List External) (before mine ts : List Measured) (x : Lexeme) → Marks punctuator.CloseBrace x → SpellsExternals before es → OuterSoFar (Valuing n size vs) mine → ts ≡ before ++ mine → Kept (end_list es n size vs) ts x 0
 kept-list-end [] n size es before mine ts x h k o e = tt
 kept-list-end (v ∷ vs) n size es before mine ts x h k o e = elim o.11 [
@@ -134,7 +134,7 @@ kept-named (Some t) r v es before mine ts x h k o e =
     kept-object r (record { kind = Words t; objects = []; name = v }) es before mine ts x h k (o.0, [], o.1, inl (refl, refl), o.2) e
 kept-named None r v es before mine ts x h k o e = tt
 
--- parameters so far, with more tokens
+-- the parameters so far stay spelled after more tokens
 parameters-more : (f : Signature) (Row : List Measured → Type 0) (behind mine more : List Measured) → ParametersSoFar f Row behind mine → ParametersSoFar f Row (behind ++ more) (mine ++ more)
 parameters-more f Row behind mine more o =
     let head : List Measured = outside (identifier f.name) ∷ outside o.1 ∷ o.2 in
@@ -146,7 +146,6 @@ parameters-in f Row Next behind mine o h =
     let head : List Measured = outside (identifier f.name) ∷ outside o.1 ∷ [] in
     (o.0, o.1, o.2 ++ behind, o.3, o.4, h, o.6 ∙ ap (λ (z : List Measured). map outside o.0 ++ (outside (identifier f.name) ∷ outside o.1 ∷ z)) (sym (append-nil (o.2 ++ behind))))
 
--- the parenthesis after the parameters
 kept-headed-by : (f : Signature) (Row : List Measured → Type 0) (es : List External) (before mine ts : List Measured) (x : Lexeme) → Marks punctuator.CloseParenthesis x → SpellsExternals before es → (o : ParametersSoFar f Row [] mine) → SpellsParameters o.2 f.parameters → ts ≡ before ++ mine → Kept (Some (AtFile es (Headed f))) ts x 0
 unfolding parameters-more
 kept-headed-by f Row es before mine ts x h k o s e =
@@ -199,7 +198,7 @@ kept-parameter-named role.CloseParenthesis f es before mine ts x h k o e =
     kept-headed-by f (λ row. SpellsRow SpellsParameter row f.parameters) es before mine ts x h k o (some-parameters f.parameters o.2 o.5) e
 kept-parameter-named _ f es before mine ts x h k o e = tt
 
--- a parameter is complete
+-- once a parameter is complete, the tokens spell the function's head with that parameter
 parameter-done : (f : Signature) (t : Scalar) (v : Option Name) (words : List Lexeme) (mine : List Measured) → SpellsType words t → ParametersSoFar f (λ row. RowSoFar SpellsParameter row f.parameters) (map outside words ++ map outside (optional_identifier v)) mine → OuterSoFar (ParameterNamed (with_parameter f t v)) mine
 parameter-done f t v words mine h o =
     let p : Parameter = record { scalar = t; name = v } in
@@ -247,7 +246,7 @@ kept-headed role.Semicolon f es before mine ts x h k o e = kept-external es (Dec
 kept-headed role.OpenBrace f es before mine ts x h k o e = kept-defines (all_named f.parameters) f es before mine ts x h k o e (λ n. named-parameters f.parameters n)
 kept-headed _ f es before mine ts x h k o e = tt
 
--- a token at file scope, outside full expressions
+-- a token at file scope, outside full expressions, extends what the tokens spell
 pub kept-outer : (o : Outer) (es : List External) (r : Role) (ts : List Measured) (x : Lexeme) → HasRole r x → AtFileSoFar es o ts → Kept (outer_step es o r (name_of x)) ts x (outer_level o r)
 kept-outer Between es r ts x h k = kept-between r es k.0 k.1 ts x h k.2 k.3 k.4
 kept-outer (ResultSign t) es r ts x h k = kept-result-sign r t es k.0 k.1 ts x h k.2 k.3 k.4

@@ -18,7 +18,7 @@ use Rattle.cc_syntax.specs.internal.Parser.{State, AtFile, InBody, InFull, Full,
 use Rattle.cc_syntax.proofs.SoFar.{WaitingSoFar, Holds, Casts, IsSign}
 use Rattle.cc_syntax.proofs.KeepsFull.{identified, holds-one, kept-colon, kept-parenthesis, kept-index, kept-comma, kept-call, kept-call-none, kept-open-call, kept-open-index}
 
--- which tokens have this role
+-- the token has this role
 abbrev pub HasRole : Role → Lexeme → Type 0
 HasRole role.Identifier x = x.kind ≡ kind.Identifier
 HasRole (role.Number t w) x = x.kind ≡ kind.Number t w
@@ -119,14 +119,15 @@ has_role (kind.Number t w) x h = h
 has_role (kind.Keyword k) x h = keyword_has k x h
 has_role (kind.Punctuator p) x h = punctuator_has p x h
 
--- what the tokens of a full expression spell, depending on what comes next
+-- the tokens of a full expression spell what has been read, depending on what comes next
 abbrev pub PhaseSoFar : Phase → List Waiting → List Lexeme → Type 0
 PhaseSoFar Operand ws xs = WaitingSoFar ws xs
 PhaseSoFar (Operator e) ws xs = Holds ws e xs 12
 PhaseSoFar (CastSign t) ws xs = Casts ws xs (IsSign t)
 PhaseSoFar (CastType t) ws xs = Casts ws xs (λ type. SpellsType type t)
 
--- a token that stays in the full expression
+-- the state, if there is one, is in the same full expression after one more token, and `ys` are the
+-- expression's tokens
 abbrev pub StaysIn : Full → List Lexeme → Option State → Type 0
 StaysIn f ys None = Unit {0}
 StaysIn f ys (Some (AtFile es o)) = ⊥
@@ -147,7 +148,7 @@ kept-none : (ws : List Waiting) (f : Full) (xs : List Lexeme) (x : Lexeme) → M
 kept-none (Arguments n none ∷ ws) f xs x h w = (refl, refl, kept-call-none n ws xs x h w)
 kept-none _ f xs x h w = tt
 
--- a token in a place where an operand is due
+-- a token in a place where an operand is due extends what the tokens spell
 pub kept-operand : (r : Role) (f : Full) (xs : List Lexeme) (x : Lexeme) → HasRole r x → WaitingSoFar f.waiting xs → StaysIn f (xs ++ x ∷ []) (operand_step f r (name_of x))
 kept-operand (role.Number t w) f xs x h k = (refl, refl, holds-one (Number t w) f.waiting xs x (x, h, refl) k)
 kept-operand role.Identifier f xs x h k = (refl, refl, holds-one (Variable (name_of x)) f.waiting xs x (ap (λ (y : Lexeme). y ∷ []) (identified x h)) k)
@@ -160,7 +161,7 @@ kept-operand role.Int f xs x h k = kept-cast-int f.waiting f xs x h k
 kept-operand (role.SignWord t) f xs x h k = kept-cast-sign f.waiting f t xs x h k
 kept-operand _ f xs x h k = tt
 
--- a token after the type of a cast
+-- a token after the type of a cast extends what the tokens spell
 pub kept-cast : (r : Role) (f : Full) (t : Scalar) (xs : List Lexeme) (x : Lexeme) → HasRole r x → Casts f.waiting xs (λ type. SpellsType type t) → StaysIn f (xs ++ x ∷ []) (cast_step f t r)
 kept-cast role.CloseParenthesis f t xs x h k =
     (refl, refl, (k.prefix, k.type, k.opening, x, k.waits, k.opens, k.word, h, ap (λ (z : List Lexeme). z ++ x ∷ []) k.whole ∙ append_assoc k.prefix (k.opening ∷ k.type) (x ∷ [])))
@@ -186,13 +187,13 @@ kept-cast-word role.Int f t xs x h k =
     )
 kept-cast-word r f t xs x h k = kept-cast r f t xs x h (sign-type t f.waiting xs k)
 
--- a parenthesis or bracket after a name
+-- after a name, a parenthesis or bracket extends what the tokens spell
 pub kept-name : (e : Expr) (r : Role) (f : Full) (xs : List Lexeme) (x : Lexeme) → HasRole r x → Holds f.waiting e xs 12 → StaysIn f (xs ++ x ∷ []) (open_name f e r)
 kept-name (Variable n) role.OpenParenthesis f xs x h k = (refl, refl, kept-open-call n f.waiting xs x h k)
 kept-name (Variable n) role.OpenBracket f xs x h k = (refl, refl, kept-open-index n f.waiting xs x h k)
 kept-name _ _ f xs x h k = tt
 
--- a closing token after an operand, if something is pending
+-- after an operand, a closing token extends what the tokens spell, if something is pending
 pub kept-close : (r : Role) (e : Expr) (w : Waiting) (ws : List Waiting) (f : Full) (xs : List Lexeme) (x : Lexeme) → HasRole r x → Holds (w ∷ ws) e xs 1 → StaysIn f (xs ++ x ∷ []) (close f r (e, w ∷ ws))
 kept-close role.CloseParenthesis e Parenthesis ws f xs x h k = (refl, refl, kept-parenthesis e ws xs x h k)
 kept-close role.CloseBracket e (Index n) ws f xs x h k = (refl, refl, kept-index n e ws xs x h k)

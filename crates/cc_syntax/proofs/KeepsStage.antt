@@ -1,4 +1,4 @@
--- Reading a token extends what the tokens so far spell: in a function's body, outside full expressions (second part).
+-- Reading a token in a function's body, outside full expressions, extends what the tokens so far spell (second part).
 use Rattle.std.proofs.Common.{◌≡◌, ℕ, false, suc, List, [], ◌∷◌, ◌++◌, length, map, Option, Some, None, refl, sym, ap, subst, ◌∙◌, append_assoc, inl, inr}
 use Rattle.std.proofs.lemmas.Bool.{false≢true}
 use Rattle.std.proofs.lemmas.List.{append-nil}
@@ -25,7 +25,7 @@ use Rattle.cc_syntax.proofs.KeepsEnd.{deep, kept-declared, next-declared}
 use Rattle.cc_syntax.proofs.KeepsObject.{kept-external}
 use Rattle.cc_syntax.proofs.KeepsOperator.{leads-joins, begun, kept-begin}
 
--- the first token of an action
+-- the first token of an action extends what the tokens spell
 kept-action : (p : Spot) (r : Role) (b : Inside) (before mine ts : List Measured) (x : Lexeme) (l : ℕ) → HasRole r x → BodySoFar b.externals b.signature b.finished b.opened before → SpotSoFar p b.opened mine → ts ≡ before ++ mine → leads p b.opened (full (x ∷ [])) ≡ record { token = x; count = 1; level = l } ∷ [] → Kept (action_step b p r (name_of x)) ts x l
 kept-action p (role.Step op) b before mine ts x l h k s e lead =
     let one : List Measured = record { token = x; count = 1; level = l } ∷ [] in
@@ -64,7 +64,7 @@ kept-sign (InBlock ss ∷ os) b t ts x h k =
     (ts, first (depth us) 0 x ∷ [], k, ([], x, begin_local us (λ u ds. tt), h, refl), refl)
 kept-sign _ b t ts x h k = tt
 
--- the first token of a statement or declaration, or the end of a block
+-- the first token of a statement or declaration, or the end of a block, extends what the tokens spell
 kept-item : (r : Role) (b : Inside) (ts : List Measured) (x : Lexeme) → HasRole r x → BodySoFar b.externals b.signature b.finished b.opened ts → Kept (item_step b r (name_of x)) ts x (item_level (length b.opened) r)
 kept-item role.OpenBrace b ts x h k = kept-opens b (InBlock end) ts (first (depth b.opened) 0 x ∷ []) ts x (depth b.opened) k (x, [], h, refl, refl) refl
 kept-item role.CloseBrace b ts x h k = kept-block b.opened b ts x h k
@@ -87,7 +87,7 @@ kept-do : (r : Role) (b : Inside) (s : Stmt) (ts : List Measured) (x : Lexeme) �
 kept-do role.While b s ts x h k = (k.0, k.1 ++ outside x ∷ [], k.2, k.3 x h, regrouped ts k.0 k.1 (outside x ∷ []) k.4)
 kept-do _ b s ts x h k = tt
 
--- what comes after a statement that no `else` follows, depending on how many statements stay open
+-- the state after a statement that no `else` follows agrees with the number of statements that stay open
 abbrev Rests : Option ℕ → Inside × Stage → Type 0
 Rests (Some d) (b, Item) = length b.opened ≡ d
 Rests None (b, AfterDo s) = Unit {0}
@@ -215,7 +215,7 @@ kept-has-declared _ b w t ds v ts x h k = tt
 
 -- increments and decrements that begin with their operator
 
--- the tokens of an action, with one more token
+-- the tokens of an action are extended by one token
 joined : (p : Spot) (os : List Open) (mine before : List Measured) (x : Lexeme) (xs : List Lexeme) (y : Measured) → mine ≡ before ++ leads p os (full (x ∷ xs)) → mine ++ y ∷ [] ≡ before ++ leads p os (full (x ∷ xs) ++ y ∷ [])
 joined p os mine before x xs y e = regrouped mine before (leads p os (full (x ∷ xs))) (y ∷ []) e ∙ ap (λ (z : List Measured). before ++ z) (sym (leads-joins p os x xs (y ∷ [])))
 
@@ -228,7 +228,7 @@ kept-stepping role.Identifier b op p ts x h k =
     (k.0, k.1 ++ y ∷ [], k.2, (s.0, s.1, s.2, s.3, tokens), regrouped ts k.0 k.1 (y ∷ []) k.4)
 kept-stepping _ b op p ts x h k = tt
 
--- the token after an action that has no further part
+-- the token that ends an action extends what the tokens spell
 kept-behind : (p : Spot) (r : Role) (b : Inside) (a : Action) (y : Lexeme) (ys : List Lexeme) (before mine start ts : List Measured) (x : Lexeme) → HasRole r x → BodySoFar b.externals b.signature b.finished b.opened before → SpotSoFar p b.opened start → SpellsAction (y ∷ ys) a → mine ≡ start ++ leads p b.opened (full (y ∷ ys)) → ts ≡ before ++ mine → Kept (acted b p a r) ts x 0
 kept-behind p r b a y ys before mine start ts x h k s z m e =
     kept-acted p r b a (y ∷ ys) before start ts x h k s z (regrouped ts before mine (outside x ∷ []) e ∙ ap (λ (u : List Measured). before ++ u) (joined p b.opened mine start y ys (outside x) m))
@@ -247,7 +247,7 @@ kept-step-named r b op v p ts x h k =
     let s = k.3 in
     kept-behind p r b (Step op (AtVariable v)) s.1 (identifier v ∷ []) k.0 k.1 s.0 ts x h k.2 s.2 (s.1, identifier v ∷ [], s.3, refl, inl refl) s.4 k.4
 
--- a token in a body, outside full expressions
+-- a token in a body, outside full expressions, extends what the tokens spell
 pub kept-stage : (s : Stage) (b : Inside) (r : Role) (ts : List Measured) (x : Lexeme) → HasRole r x → InBodySoFar (b, s) ts → Kept (body_step b s r (name_of x)) ts x (stage_level b.opened s r)
 kept-stage Item b r ts x h k =
     let whole : BodySoFar b.externals b.signature b.finished b.opened ts =

@@ -1,4 +1,4 @@
--- What a token does if its role is not the expected one.
+-- What the parser does at a token whose role is not the expected one.
 use Rattle.std.proofs.Common.{◌≡◌, refl, Option, false}
 use Rattle.cc_syntax.specs.declared.parser.role.Role.{Role}
 use Rattle.cc_syntax.specs.declared.parser.role.Role.TheVariants as role

@@ -1,4 +1,4 @@
--- From the tokens of a text to the text: what `parse` returns in each case.
+-- What `parse` returns for a text, given what the parser does with the text's tokens.
 use Rattle.std.proofs.Common.{◌≡◌, ◌≤◌, ℕ, List, length, Result, Ok, Err, refl, subst, arith}
 use Rattle.cc_tokens.specs.declared.place.Place.{Place}
 use Rattle.cc_tokens.specs.declared.fault.SyntaxFault.{SyntaxFault}
@@ -38,7 +38,7 @@ same_tree text a b h k =
     let w : SpellsWithin h.tokens b = subst (λ (ts : List Lexeme). SpellsWithin ts b) same k.spelled in
     trees_are_one h.tokens a b (h.spelled.0, h.spelled.1, h.spelled.3) (w.0, w.1, w.3)
 
--- if the text spells a tree, that is the result
+-- if the text spells a tree, the result is that tree, unless memory ran out
 pub only : (text : List ℕ) (r : Result unit.Unit SyntaxFault) → IsParse text r → (tree : List External) → length text ≤ 65536 → SpellsText text tree → AnswersTree tree r
 only text (Ok u) h tree fits s = same_tree text (source u).externals tree h.2 s
 only text (Err e) h tree fits s = spelled_refused text e tree h fits s

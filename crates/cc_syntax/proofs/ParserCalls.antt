@@ -8,7 +8,7 @@ use Rattle.cc_syntax.specs.internal.Parser.{Waiting, Arguments, Full, call_of_no
 use Rattle.cc_syntax.specs.internal.ParserView.{waiting_view, waiting_views}
 use Rattle.cc_syntax.proofs.Views.{waiting_views-push}
 
--- the last pending part, as the view sees it
+-- the last pending part in the code is the first one in the view
 pub waiting_views-last : (xs ws : List waiting.Waiting) (w : waiting.Waiting) (v : Waiting) → xs ≡ ws ++ w ∷ [] → waiting_view w ≡ v → waiting_views xs ≡ v ∷ waiting_views ws
 waiting_views-last xs ws w v e d =
     ap waiting_views e ∙ waiting_views-push ws w ∙ ap (λ (u : Waiting). u ∷ waiting_views ws) d

@@ -22,7 +22,7 @@ all_named-trees (p ∷ ps) =
     ap (λ (b : Bool). b && all_named (parameter_trees ps)) (named-tree p.name)
     ∙ ap (λ (b : Bool). is_some p.name && b) (all_named-trees ps)
 
--- the innermost open statement, as the view sees it
+-- the last open statement in the code is the first one in the view
 pub open_views-last : (xs os : List open_statement.Open) (o : open_statement.Open) (v : Open) → xs ≡ os ++ o ∷ [] → open_view o ≡ v → open_views xs ≡ v ∷ open_views os
 open_views-last xs os o v e d = ap open_views e ∙ open_views-push os o ∙ ap (λ (u : Open). u ∷ open_views os) d
 

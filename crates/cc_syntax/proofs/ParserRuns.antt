@@ -1,5 +1,5 @@
--- Runs of the parser over tokens, with what the limits count at each token. A run can be cut and joined, and the tokens alone
--- determine it.
+-- Runs of the parser over tokens, with what the limits count at each token. A run can be split and runs can be joined, and
+-- the tokens alone determine a run.
 use Rattle.std.proofs.Common.{◌≡◌, ℕ, List, [], ◌∷◌, ◌++◌, Option, Some, refl, sym, ap, subst, ◌∙◌}
 use Rattle.cc_tokens.specs.declared.token.TokenKind.{TokenKind}
 use Rattle.cc_tokens.specs.Token.{Lexeme}
@@ -7,7 +7,7 @@ use Rattle.cc_syntax.specs.internal.Roles.{role_of}
 use Rattle.cc_ast.specs.Grammar.{Measured, plain_tokens}
 use Rattle.cc_syntax.specs.internal.Parser.{State, step, role_step, name_of, count_of, level_at, role_level}
 
--- the parser goes from one state to another over the tokens
+-- the tokens take the parser from the state `s` to the state `e`
 abbrev pub Runs : State → List Measured → State → Type 0
 Runs s [] e = s ≡ e
 Runs s (p ∷ ps) e = (m : State) × (step s p.token ≡ Some m) × (p.count ≡ count_of m) × (p.level ≡ level_at s p.token) × Runs m ps e
@@ -20,7 +20,7 @@ pub runs-split : (s e : State) (a b : List Measured) → Runs s (a ++ b) e → (
 runs-split s e [] b h = (s, refl, h)
 runs-split s e (p ∷ a) b h = let r = runs-split h.0 e a b h.4 in (r.0, (h.0, h.1, h.2, h.3, r.1), r.2)
 
--- one token of a known kind
+-- a run can be extended at its beginning by a token of a known kind
 pub token : (s m e : State) (x : Lexeme) (k : TokenKind) (c l : ℕ) (ps : List Measured) → x.kind ≡ k → role_step s (role_of k) (name_of x) ≡ Some m → c ≡ count_of m → l ≡ role_level s (role_of k) → Runs m ps e → Runs s (record { token = x; count = c; level = l } ∷ ps) e
 token s m e x k c l ps h goes count level rest =
     (m, ap (λ (z : TokenKind). role_step s (role_of z) (name_of x)) h ∙ goes, count, level ∙ ap (λ (z : TokenKind). role_level s (role_of z)) (sym h), rest)

@@ -1,4 +1,4 @@
--- Each action that tokens spell is read from them: an assignment, an increment or decrement, or an expression.
+-- The parser reads each action that tokens spell: an assignment, an increment or decrement, or an expression.
 use Rattle.std.proofs.Common.{◌≡◌, ℕ, true, false, suc, List, [], ◌∷◌, ◌++◌, Some, Bool, refl, sym, ap, subst, ◌∙◌, arith, append_assoc, inl, inr}
 use Rattle.cc_ast.specs.declared.ast.AssignmentOperator.{AssignmentOperator}
 use Rattle.cc_ast.specs.declared.ast.AssignmentOperator.TheVariants as assignment
@@ -19,15 +19,15 @@ use Rattle.cc_syntax.proofs.Forms.{operand, operator, count_after, count_after-a
 use Rattle.cc_syntax.proofs.Settles.{settled-count, none-some}
 use Rattle.cc_syntax.proofs.ReadsExpression.{Read, read_expression}
 
--- a whole full expression
+-- if tokens spell a whole full expression, the parser reads it
 pub read_full : (e : Expr) (xs : List Lexeme) (c : Context) (n : ℕ) → SpellsExpression 1 xs e → Read c n [] 1 xs e
 read_full e xs c n h = read_expression e 1 xs c n [] h tt (omega arith)
 
--- a token that closes a pending part
+-- the token closes a pending part, or ends the expression
 abbrev pub Closes : TokenKind → Type 0
 Closes k = (f : Full) (e : Expr) → operator_step f e (role_of k) ≡ close f (role_of k) (reduced 1 f.waiting e)
 
--- a full expression, and the token after it
+-- the parser reads a full expression and the token after it
 pub read_ended : (c : Context) (n : ℕ) (xs : List Lexeme) (e : Expr) (x : Lexeme) (k : TokenKind) (m : State) (j : ℕ) → SpellsExpression 1 xs e → x.kind ≡ k → Closes k → end_full c (count_after n xs) e (role_of k) ≡ Some m → j ≡ count_of m → Runs (operand c n []) (full_after n xs ++ record { token = x; count = j; level = 0 } ∷ []) m
 read_ended c n xs e x k m j h i closes ends counts =
     let r = read_full e xs c n h in
@@ -36,7 +36,7 @@ read_ended c n xs e x k m j h i closes ends counts =
     runs-append _ last m (full_after n xs) (record { token = x; count = j; level = 0 } ∷ []) r.runs
     (token last m m x k j 0 [] i (closes f r.last ∙ ap (λ (z : Expr × List Waiting). close f (role_of k) z) (r.same 1 (omega arith)) ∙ ends) counts refl refl)
 
--- the operator after a target is read at the beginning of an action
+-- the operator after a target, if the target begins an action
 
 assign_step : (op : AssignmentOperator) (f : Full) (e : Expr) → operator_step f e (punctuator_role (assignment_punctuator op)) ≡ assign f e op f.waiting
 assign_step assignment.Plain f e = refl
@@ -60,7 +60,7 @@ abbrev expression_of : Target → Expr
 expression_of (AtVariable v) = Variable v
 expression_of (AtElement v e) = Element v e
 
--- a target is read as a name or an element, and nothing is pending after it
+-- the parser reads the target as an expression, and nothing is pending after it
 record ReadTarget (c : Context) (n : ℕ) (xs : List Lexeme) (t : Target) : Type 0 where
   runs : Runs (operand c n []) (full_after n xs) (operator c (count_after n xs) [] (expression_of t))
 
@@ -136,14 +136,14 @@ at_operand _ = false
 pub no-operator : (c : Context) (n k : ℕ) (us ws : List Waiting) (last : Expr) → operand c n us ≡ operator c k ws last → ⊥
 no-operator c n k us ws last h = let e : true ≡ false = ap (λ (s : State). at_operand s) h in cc
 
--- an action whose first token begins an expression
+-- a run over an action that begins with an expression may start in any state in which an action may begin
 enter : (xs : List Lexeme) (s : State) (b : Inside) (p : Spot) (level k : ℕ) (ws : List Waiting) (last : Expr) (rest : List Measured) (m : State) → Enters s b p level → Runs (operand (OfBody b (ToPerform p)) 0 []) (full xs) (operator (OfBody b (ToPerform p)) k ws last) → Runs (operator (OfBody b (ToPerform p)) k ws last) rest m → Runs s (begins level (full xs ++ rest)) m
 enter [] s b p level k ws last rest m e h g = absurd (no-operator (OfBody b (ToPerform p)) 0 k [] ws last h)
 enter (x ∷ xs) s b p level k ws last rest m e h g =
     let goes = operand-acts (role_of x.kind) b p (name_of x) h.0 h.1 in
     (h.0, e.first (role_of x.kind) (name_of x) h.0 goes, h.2, e.begun (role_of x.kind) (name_of x) h.0 goes, runs-append h.0 (operator (OfBody b (ToPerform p)) k ws last) m (full_after 1 xs) rest h.4 g)
 
--- an increment or decrement before its target, and the token after that
+-- the parser reads the target after `++` or `--`, and the token after the target
 read_stepped : (t : Target) (op : StepOperator) (xs : List Lexeme) (b : Inside) (p : Spot) (x : Lexeme) → SpellsTarget xs t → x.kind ≡ terminator p → Runs (InBody b (Stepping op p)) (full_after 1 xs ++ outside x ∷ []) (behind b p (Step op t))
 read_stepped (AtVariable v) op xs b p x h i =
     let m = behind b p (Step op (AtVariable v)) in
@@ -172,7 +172,7 @@ step-begins : (op : StepOperator) (b : Inside) (p : Spot) (v : Name) → action_
 step-begins stepping.Increment b p v = refl
 step-begins stepping.Decrement b p v = refl
 
--- an action, and the token after it
+-- the parser reads an action and the token after it
 pub read_action : (a : Action) (xs : List Lexeme) (s : State) (b : Inside) (p : Spot) (level : ℕ) (x : Lexeme) → Enters s b p level → SpellsAction xs a → x.kind ≡ terminator p → Runs s (begins level (full xs ++ outside x ∷ [])) (behind b p a)
 read_action (Evaluate e) xs s b p level x enters h i =
     let c = OfBody b (ToPerform p) in

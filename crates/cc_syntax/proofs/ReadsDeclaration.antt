@@ -1,4 +1,4 @@
--- Each declaration of locals that tokens spell is read from them.
+-- The parser reads each declaration of locals that tokens spell.
 use Rattle.std.proofs.Common.{◌≡◌, ℕ, true, List, [], ◌∷◌, ◌++◌, map, Option, Some, None, refl, sym, ap, subst, ◌∙◌, append_assoc, inl, inr}
 use Rattle.cc_tokens.specs.declared.scalar.Scalar.{Scalar}
 use Rattle.cc_tokens.specs.declared.scalar.Scalar.TheVariants as scalar
@@ -55,7 +55,7 @@ separator-closes : (z : Separator) → Closes (separator z)
 separator-closes Last f e = refl
 separator-closes Further f e = refl
 
--- an initialiser if there is one, and the token after it
+-- the parser reads an initialiser, if there is one, and the token after it
 read_initial : (i : Option Expr) (ts : List Measured) (z : Separator) (x : Lexeme) (b : Inside) (w : Position) (t : Scalar) (ds : List Declarator) (v : Name) → SpellsInitial ts i → x.kind ≡ separator z → Runs (InBody b (HasDeclared w t ds v)) (ts ++ outside x ∷ []) (behind z b w t (ds ++ declared v i ∷ []))
 read_initial None ts z x b w t ds v h k =
     let s = InBody b (HasDeclared w t ds v) in
@@ -74,7 +74,7 @@ read_initial (Some e) ts z x b w t ds v h k =
     ends Last = declares-state b w t (ds ++ declared v (Some e) ∷ [])
     ends Further = refl
 
--- a state in which a further name is declared
+-- a state in which a further name may be declared
 pub record Names (s : State) (b : Inside) (w : Position) (t : Scalar) (ds : List Declarator) : Type 0 where
   pub named : (v : Name) → role_step s role.Identifier v ≡ Some (InBody b (HasDeclared w t ds v))
   pub begun : 0 ≡ role_level s role.Identifier
@@ -105,14 +105,14 @@ read_row (e ∷ f ∷ es) ts x s b w t ds names h k =
     regroup : (a : List Measured) (p : Measured) (c : List Measured) (q : Measured) → (a ++ p ∷ []) ++ (c ++ q ∷ []) ≡ (a ++ p ∷ c) ++ q ∷ []
     regroup a p c q = simp append_assoc
 
--- a state in which a declaration begins
+-- a state in which a declaration may begin
 pub record Begins (s : State) (b : Inside) (w : Position) (level : ℕ) : Type 0 where
   pub int : (v : Name) → role_step s role.Int v ≡ Some (InBody b (Declaring w scalar.Int []))
   pub sign : (t : Scalar) (v : Name) → role_step s (role.SignWord t) v ≡ Some (InBody b (LocalSign w t))
   pub int_level : level ≡ role_level s role.Int
   pub sign_level : (t : Scalar) → level ≡ role_level s (role.SignWord t)
 
--- the keywords of a type, followed by names
+-- if the parser reads what follows the keywords of a type, it reads the keywords and what follows them
 read_type : (t : Scalar) (xs : List Lexeme) (s : State) (b : Inside) (w : Position) (level : ℕ) (rest : List Measured) (m : State) → Begins s b w level → SpellsType xs t → ((a : State) → Names a b w t [] → Runs a rest m) → Runs s (begins level (map outside xs ++ rest)) m
 read_type t xs s b w level rest m begin (inl h) on =
     subst (λ (z : List Lexeme). Runs s (begins level (map outside z ++ rest)) m) (sym h.3)
@@ -137,7 +137,7 @@ read_type scalar.Unsigned xs s b w level rest m begin (inr (inr h)) on =
     (token (InBody b (LocalSign w scalar.Unsigned)) (InBody b (Declaring w scalar.Unsigned [])) m h.1 (kind.Keyword keyword.Int) 0 0 rest h.3 refl refl refl
     (on (InBody b (Declaring w scalar.Unsigned [])) (names-declaring b w scalar.Unsigned []))))
 
--- a whole declaration, at a level
+-- the parser reads a whole declaration, at its level
 pub read_local : (t : Scalar) (ds : List Declarator) (ts : List Measured) (s : State) (b : Inside) (w : Position) (level : ℕ) → Begins s b w level → SpellsLocal ts t ds → Runs s (begins level ts) (declared_state b w t ds)
 read_local t ds ts s b w level begin h =
     subst (λ (z : List Measured). Runs s (begins level z) (declared_state b w t ds)) (sym h.6)

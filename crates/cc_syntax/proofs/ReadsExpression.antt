@@ -1,5 +1,5 @@
--- Each expression that tokens spell is read from them, by induction on its tree. After its tokens the parser may still have
--- pending parts of it; any operator of the level reduces these to the whole expression.
+-- The parser reads each expression that tokens spell, by induction on its tree. After the expression's tokens, parts of it
+-- may still be pending; any operator of the level reduces them to the whole expression.
 use Rattle.std.proofs.Common.{◌≡◌, ◌≤◌, ℕ, suc, List, [], ◌∷◌, ◌++◌, Some, refl, sym, ap, subst, ◌∙◌, arith, append_assoc, inl, inr}
 use Rattle.cc_ast.specs.declared.ast.BinaryOperator.{BinaryOperator}
 use Rattle.cc_ast.specs.declared.ast.BinaryOperator.TheVariants as binary
@@ -19,7 +19,7 @@ use Rattle.cc_syntax.specs.internal.Parser.{InFull, CastSign, CastType, Context,
 use Rattle.cc_syntax.proofs.ParserRuns.{Runs, token}
 use Rattle.cc_syntax.proofs.Forms.{operand, operator, count_after, count_after-append, runs-full, pops, Fits, fits-more, fits-stays}
 
--- the parser gets past the tokens of an expression, whatever precedes them
+-- the parser reads the tokens of an expression, after the pending parts `ws`
 pub record Read (c : Context) (n : ℕ) (ws : List Waiting) (l : ℕ) (xs : List Lexeme) (e : Expr) : Type 0 where
   pub last : Expr
   pub waiting : List Waiting
@@ -46,7 +46,7 @@ binary_step binary.Or f e = refl
 binary_step binary.LogicalAnd f e = refl
 binary_step binary.LogicalOr f e = refl
 
--- the levels of binary operators
+-- the level of a binary operator is 2 to 11
 pub precedence-within : (op : BinaryOperator) → (2 ≤ precedence op) × (precedence op ≤ 11)
 precedence-within binary.Multiply = (omega arith, omega arith)
 precedence-within binary.Divide = (omega arith, omega arith)
@@ -73,21 +73,21 @@ sign_step unary.Minus c n ws x = refl
 sign_step unary.Complement c n ws x = refl
 sign_step unary.Not c n ws x = refl
 
--- an expression of one token
+-- the parser reads an expression of one token
 one : (c : Context) (n : ℕ) (ws : List Waiting) (l : ℕ) (xs : List Lexeme) (e : Expr) (x : Lexeme) → xs ≡ x ∷ [] → Runs (operand c n ws) (full_after n (x ∷ [])) (operator c (suc n) ws e) → Read c n ws l xs e
 one c n ws l xs e x h r = subst (λ (z : List Lexeme). Read c n ws l z e) (sym h) (record { last = e; waiting = ws; runs = r; same = λ q k. refl })
 
--- an expression whose last token leaves nothing of it pending
+-- the parser reads an expression if no part of it is pending after its last token
 whole : (c : Context) (n : ℕ) (ws : List Waiting) (l : ℕ) (xs ys : List Lexeme) (e : Expr) (k : ℕ) → xs ≡ ys → k ≡ count_after n ys → Runs (operand c n ws) (full_after n ys) (operator c k ws e) → Read c n ws l xs e
 whole c n ws l xs ys e k h i r =
     subst (λ (z : List Lexeme). Read c n ws l z e) (sym h)
     (record { last = e; waiting = ws; runs = subst (λ (j : ℕ). Runs (operand c n ws) (full_after n ys) (operator c j ws e)) i r; same = λ q k. refl })
 
--- an operator after its left operand
+-- an operator after its left operand becomes the latest pending part
 behind_left : (op : BinaryOperator) (c : Context) (n : ℕ) (ws left : List Waiting) (last a : Expr) → reduced (precedence op) left last ≡ (a, ws) → operator_step (full_of c left n) last (punctuator_role (binary_punctuator op)) ≡ Some (operand c (suc n) (Infix op a ∷ ws))
 behind_left op c n ws left last a h = binary_step op (full_of c left n) last ∙ ap (λ (r : Expr × List Waiting). operate (full_of c left n) op r) h
 
--- in a cast: the keywords of a type, and the parenthesis after them
+-- the parser reads the keywords of a type in a cast, and the parenthesis after them
 read_type : (t : Scalar) (xs : List Lexeme) (closing : Lexeme) (c : Context) (n : ℕ) (ws : List Waiting) → SpellsType xs t → Marks punctuator.CloseParenthesis closing → Runs (operand c n (Parenthesis ∷ ws)) (full_after n (xs ++ closing ∷ [])) (operand c (suc (count_after n xs)) (Casting t ∷ ws))
 read_type t xs closing c n ws (inl h) k =
     subst (λ (u : Scalar). Runs (operand c n (Parenthesis ∷ ws)) (full_after n (xs ++ closing ∷ [])) (operand c (suc (count_after n xs)) (Casting u ∷ ws))) (sym h.1)
@@ -249,7 +249,7 @@ mutual
         same = λ q k. right.same q (omega (arith, h.5, k)) ∙ pops q 1 _ _ (omega (arith, h.5, k));
       })
 
-  -- the arguments of a call, and the parenthesis after them
+  -- the parser reads the arguments of a call, and the parenthesis after them
   read_arguments : (es : Exprs) (xs : List Lexeme) (closing : Lexeme) (v : Name) (done : Exprs) (c : Context) (n : ℕ) (ws : List Waiting) → Comes done es → SpellsArguments xs es → Marks punctuator.CloseParenthesis closing → Runs (operand c n (Arguments v done ∷ ws)) (full_after n (xs ++ closing ∷ [])) (operator c (suc (count_after n xs)) ws (Call v (appended done es)))
   read_arguments none xs closing v done c n ws p h k =
       subst (λ (z : List Lexeme). Runs (operand c n (Arguments v done ∷ ws)) (full_after n (z ++ closing ∷ [])) (operator c (suc (count_after n z)) ws (Call v done))) (sym h)

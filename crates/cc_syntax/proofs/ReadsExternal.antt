@@ -1,4 +1,4 @@
--- Each external declaration, and each unit, that tokens spell is read from them.
+-- The parser reads each external declaration, and each unit, that tokens spell.
 use Rattle.std.proofs.Common.{◌≡◌, ℕ, Bool, true, List, [], ◌∷◌, ◌++◌, map, Option, Some, None, refl, sym, ap, subst, ◌∙◌, arith, append_assoc, inl, inr}
 use Rattle.std.specs.Prelude.{◌&&◌, is_some}
 use Rattle.cc_tokens.specs.declared.scalar.Scalar.{Scalar}
@@ -59,7 +59,7 @@ read_words scalar.Unsigned xs s typed sign P rest m w p q (inr (inr h)) on =
 
 -- constant expressions
 
--- a constant expression in a place where one may begin, and the token after it
+-- the parser reads a constant expression in a place where one may begin, and the token after it
 read_constant : (e : ConstantExpr) (ts : List Measured) (s : State) (c : Context) (x : Lexeme) (k : TokenKind) (rest : List Measured) (n m : State) → SpellsConstantExpr ts e → ((r : Role) (v : Name) (z : State) → v.at ≡ e.at → first_step c r v ≡ Some z → role_step s r v ≡ Some z) → ((r : Role) (v : Name) (z : State) → first_step c r v ≡ Some z → 0 ≡ role_level s r) → x.kind ≡ k → Closes k → ((j : ℕ) → close (full_of c [] j) (role_of k) (e.expr, []) ≡ Some n) → 0 ≡ count_of n → Runs n rest m → Runs s (ts ++ outside x ∷ rest) m
 read_constant e ts s c x k rest n m h first none i closes goes counts on =
     let r = read_full e.expr h.0 c 0 h.1 in
@@ -87,7 +87,7 @@ abbrev behind_parameter : End → List External → Signature → State
 behind_parameter Comma es f = AtFile es (ParameterNext f)
 behind_parameter Parenthesis es f = AtFile es (Headed f)
 
--- a state after the keywords of a parameter's type
+-- the state after the keywords of a parameter's type
 record InParameter (es : List External) (f : Signature) (t : Scalar) (s : State) : Type 0 where
   named : (v : Name) → role_step s role.Identifier v ≡ Some (AtFile es (ParameterNamed (with_parameter f t (Some v))))
   ends : (z : End) (v : Name) → role_step s (role_of (end_kind z)) v ≡ Some (behind_parameter z es (with_parameter f t None))
@@ -191,7 +191,7 @@ read_parameters (p ∷ ps) ts es f x h k e = read_parameter_row (p ∷ ps) ts es
 
 -- a function's result, name and parameters
 
--- a state in which the first name of an external declaration comes
+-- a state in which the first name of an external declaration may come
 record FirstName (es : List External) (r : Option Scalar) (s : State) : Type 0 where
   named : (v : Name) → role_step s role.Identifier v ≡ Some (AtFile es (Named r v))
   begun : 0 ≡ role_level s role.Identifier
@@ -261,20 +261,20 @@ behind-count Further es t os = refl
 abbrev naming : ObjectKind → List Object → Name → Naming
 naming t os v = record { kind = t; objects = os; name = v }
 
--- a state after the name of an object that may be a single object
+-- the state after the name of an object that may be a single object
 record BehindSingle (es : List External) (n : Naming) (s : State) : Type 0 where
   sign : (v : Name) → role_step s (role.Assignment assignment.Plain) v ≡ Some (AtFile es (Initialising n))
   ends : (z : Separator) (v : Name) → role_step s (role_of (separator z)) v ≡ Some (behind z es n.kind (with_object n (Single n.name None)))
   sign_level : 0 ≡ role_level s (role.Assignment assignment.Plain)
   ends_level : (z : Separator) → 0 ≡ role_level s (role_of (separator z))
 
--- a state after the name of an object
+-- the state after the name of an object
 record BehindName (es : List External) (n : Naming) (s : State) : Type 0 where
   bracket : (v : Name) → role_step s role.OpenBracket v ≡ Some (AtFile es (Sizing n))
   bracket_level : 0 ≡ role_level s role.OpenBracket
   single : AreWords n.kind → BehindSingle es n s
 
--- a state in which a further object is named
+-- a state in which a further object may be named
 record NamesObject (es : List External) (t : ObjectKind) (os : List Object) (s : State) : Type 0 where
   next : Name → State
   named : (v : Name) → role_step s role.Identifier v ≡ Some (next v)
@@ -333,7 +333,7 @@ end_list-some : (es : List External) (n : Naming) (size : Option ConstantExpr) (
 end_list-some es n size [] v = refl
 end_list-some es n size (w ∷ vs) v = refl
 
--- the values of a list, an optional comma, and the closing brace
+-- the parser reads the values of a list, an optional comma, and the closing brace
 read_values : (vs : List ConstantExpr) (ts : List Measured) (comma : List Lexeme) (x : Lexeme) (es : List External) (n : Naming) (size : Option ConstantExpr) (done : List ConstantExpr) (rest : List Measured) (m : State) → SpellsRow SpellsConstantExpr ts vs → IsOptionalComma comma → Marks punctuator.CloseBrace x → Runs (AtFile es (Listed n.kind (with_object n (array_of n.kind n.name size (done ++ vs))))) rest m → Runs (AtFile es (Valuing n size done)) (ts ++ (map outside comma ++ outside x ∷ rest)) m
 read_values [] ts comma x es n size done rest m h i k on = absurd h
 read_values (v ∷ []) ts comma x es n size done rest m h (inl i) k on =
@@ -398,7 +398,7 @@ separator-closes : (z : Separator) → Closes (separator z)
 separator-closes Last f e = refl
 separator-closes Further f e = refl
 
--- the name of an array, its length and its initialiser list
+-- the parser reads the name of an array, its length and its initialiser list
 read_array : (v : Name) (size : Option ConstantExpr) (values : List ConstantExpr) (ts : List Measured) (z : Separator) (x : Lexeme) (es : List External) (t : ObjectKind) (os : List Object) (s : State) → NamesObject es t os s → SpellsArray ts v size values → x.kind ≡ separator z
     → Runs s (ts ++ outside x ∷ []) (behind z es t (os ++ array_of t v size values ∷ []))
 read_array v size values ts z x es t os s names h k =
@@ -491,7 +491,7 @@ read_externals (u ∷ us) ts es h =
     subst (λ (z : List External). Runs (AtFile (es ++ u ∷ []) Between) h.1 (AtFile z Between)) (append_assoc es (u ∷ []) us) (read_externals us h.1 (es ++ u ∷ []) h.3) in
     subst (λ (z : List Measured). Runs (AtFile es Between) z m) (sym h.4) (runs-append (AtFile es Between) (AtFile (es ++ u ∷ []) Between) m h.0 h.1 (read_external u h.0 es h.2) rest)
 
--- each unit that tokens spell is read from them
+-- the parser reads each unit that tokens spell
 pub read_unit : (tree : List External) (ts : List Measured) → SpellsUnit ts tree → Runs start ts (AtFile tree Between)
 read_unit [] ts h = absurd h
 read_unit (e ∷ es) ts h = read_externals (e ∷ es) ts [] h

@@ -1,5 +1,5 @@
--- Each statement that tokens spell is read from them, by induction on its tree. After a statement that ends in an open `if`, the
--- next token decides: any token but `else` is read as after a complete statement.
+-- The parser reads each statement that tokens spell, by induction on its tree. After a statement that ends in an open `if`, the
+-- next token decides: any token except `else` is read as it is after a complete statement.
 use Rattle.std.proofs.Common.{◌≡◌, ℕ, true, false, suc, List, [], ◌∷◌, ◌++◌, length, Option, Some, None, refl, sym, ap, subst, ◌∙◌, arith, append_assoc}
 use Rattle.cc_tokens.specs.declared.scalar.Scalar.{Scalar}
 use Rattle.cc_tokens.specs.declared.token.Keyword.TheVariants as keyword
@@ -19,7 +19,7 @@ use Rattle.cc_syntax.proofs.Settles.{within, settled-within, settled-count, sett
 use Rattle.cc_syntax.proofs.ReadsAction.{read_full, read_ended, Enters, read_action, no-operator}
 use Rattle.cc_syntax.proofs.ReadsDeclaration.{Begins, read_local}
 
--- whether a statement or declaration may come here
+-- the statement or declaration may come inside these open statements
 abbrev pub CanStand : List Open → Stmt → Type 0
 CanStand [] s = Unit {0}
 CanStand (InBlock ss ∷ os) s = Unit {0}
@@ -32,11 +32,11 @@ pub record Leads (b : Inside) (ts : List Measured) (s : Stmt) : Type 0 where
   pub closed : IsClosed s → after ≡ in_body (settled true b b.opened s)
   pub rests : RestsAs after (in_body (settled false b b.opened s))
 
--- a statement that the parser completes at its last token
+-- the tokens of a statement lead to the state after it, if the parser completes the statement at its last token
 leads : (b : Inside) (ts : List Measured) (s : Stmt) → Runs (InBody b Item) ts (in_body (settled true b b.opened s)) → Leads b ts s
 leads b ts s h = record { after = in_body (settled true b b.opened s); runs = h; closed = λ c. refl; rests = settled-rests b b.opened s }
 
--- an action begins like a statement, or at either end of a `for` header
+-- an action may begin a statement, or either end of a `for` header
 
 item-acts : (r : Role) (b : Inside) (v : Name) (m : State) → action_step b AsStatement r v ≡ Some m → item_step b r v ≡ Some m
 item-acts role.OpenBrace b v m h = absurd (none-some _ m refl h)
@@ -81,7 +81,7 @@ stepping-acts r b a e v m h = h
 enters-stepping : (b : Inside) (a : Beginning) (e : Option Expr) → Enters (InBody b (ForStepping a e)) b (AsLast a e) 0
 enters-stepping b a e = record { first = λ r v m h. stepping-acts r b a e v m h; begun = λ r v m h. refl }
 
--- an expression in a place where a full expression may begin, and what follows it
+-- a run over a full expression and what follows it may start in any state in which a full expression may begin
 enter_full : (xs : List Lexeme) (s : State) (c : Context) (k : ℕ) (ws : List Waiting) (last : Expr) (rest : List Measured) (m : State) → ((r : Role) (v : Name) (n : State) → first_step c r v ≡ Some n → role_step s r v ≡ Some n) → ((r : Role) → 0 ≡ role_level s r) → Runs (operand c 0 []) (full xs) (operator c k ws last) → Runs (operator c k ws last) rest m → Runs s (full xs ++ rest) m
 enter_full [] s c k ws last rest m first none h g = absurd (no-operator c 0 k [] ws last h)
 enter_full (x ∷ xs) s c k ws last rest m first none h g =
@@ -110,13 +110,13 @@ begins-item b t ds h = record { int = λ v. can b.opened h (Declaring AsLocal _ 
 begins-starting : (b : Inside) → Begins (InBody b ForStarting) b AsHeader (suc (suc (suc (length b.opened))))
 begins-starting b = record { int = λ v. refl; sign = λ u v. refl; int_level = refl; sign_level = λ u. refl }
 
--- a condition in parentheses
+-- the parser reads a condition in parentheses
 read_test : (e : Expr) (test : List Lexeme) (opening closing : Lexeme) (b : Inside) (k : Test) (m : State) → Marks punctuator.OpenParenthesis opening → Marks punctuator.CloseParenthesis closing → SpellsExpression 1 test e → tested b k e ≡ Some m → 0 ≡ count_of m → Runs (InBody b (Testing k)) (outside opening ∷ full test ++ outside closing ∷ []) m
 read_test e test opening closing b k m open_ close_ h goes counts =
     token (InBody b (Testing k)) (operand (OfBody b (ToTest k)) 0 []) m opening (kind.Punctuator punctuator.OpenParenthesis) 0 0 (full test ++ outside closing ∷ []) open_ refl refl refl
     (read_ended (OfBody b (ToTest k)) 0 test e closing (kind.Punctuator punctuator.CloseParenthesis) m 0 h close_ (λ f z. refl) goes counts)
 
--- the first part of a `for` header
+-- the parser reads the first part of a `for` header
 read_start : (a : Beginning) (ts : List Measured) (b : Inside) → SpellsBeginning (suc (suc (suc (length b.opened)))) ts a → Runs (InBody b ForStarting) ts (InBody b (ForTesting a))
 read_start (Declares t ds) ts b h =
     subst (λ (z : List Measured). Runs (InBody b ForStarting) z (InBody b (ForTesting (Declares t ds)))) (sym h.2)
@@ -134,7 +134,7 @@ read_start (Performs (Some a)) ts b h =
     unlevelled [] x r = r
     unlevelled (y ∷ ys) x r = r
 
--- the condition of a `for`, with its semicolon
+-- the parser reads the condition of a `for`, with its semicolon
 read_testing : (e : Option Expr) (ts : List Measured) (x : Lexeme) (b : Inside) (a : Beginning) → SpellsOptional ts e → Marks punctuator.Semicolon x → Runs (InBody b (ForTesting a)) (ts ++ outside x ∷ []) (InBody b (ForStepping a e))
 read_testing None ts x b a h k =
     subst (λ (z : List Measured). Runs (InBody b (ForTesting a)) (z ++ outside x ∷ []) (InBody b (ForStepping a None))) (sym h)
@@ -149,7 +149,7 @@ read_testing (Some e) ts x b a h k =
     subst (λ (z : List Measured). Runs (InBody b (ForTesting a)) (z ++ outside x ∷ []) m) (sym h.2)
     (enter_full h.0 (InBody b (ForTesting a)) c n r.waiting r.last (outside x ∷ []) m (λ r v z g. testing-acts r b a v z g) (λ r. refl) r.runs last)
 
--- the last part of a `for` header, with its parenthesis
+-- the parser reads the last part of a `for` header, with its parenthesis
 read_last : (l : Option Action) (ts : List Measured) (x : Lexeme) (b : Inside) (a : Beginning) (e : Option Expr) → SpellsOptionalAction ts l → Marks punctuator.CloseParenthesis x → Runs (InBody b (ForStepping a e)) (ts ++ outside x ∷ []) (InBody (within b (InFor a e l ∷ b.opened)) Item)
 read_last None ts x b a e h k =
     subst (λ (z : List Measured). Runs (InBody b (ForStepping a e)) (z ++ outside x ∷ []) (InBody (within b (InFor a e None ∷ b.opened)) Item)) (sym h)
@@ -163,7 +163,7 @@ read_last (Some l) ts x b a e h k =
     unlevelled [] y r = r
     unlevelled (z ∷ zs) y r = r
 
--- a keyword, a condition in parentheses, and what follows them
+-- the parser reads a keyword and a condition in parentheses, and then what follows them
 read_headed : (e : Expr) (test : List Lexeme) (word opening closing : Lexeme) (b : Inside) (k : Test) (w : TokenKind) (o : Open) (part : List Measured) (m : State) → word.kind ≡ w → Marks punctuator.OpenParenthesis opening → Marks punctuator.CloseParenthesis closing → SpellsExpression 1 test e → role_step (InBody b Item) (role_of w) (name_of word) ≡ Some (InBody b (Testing k)) → suc (suc (length b.opened)) ≡ role_level (InBody b Item) (role_of w) → tested b k e ≡ Some (InBody (within b (o ∷ b.opened)) Item) → Runs (InBody (within b (o ∷ b.opened)) Item) part m → Runs (InBody b Item) (begins (suc (suc (length b.opened))) (outside word ∷ outside opening ∷ full test ++ outside closing ∷ part)) m
 read_headed e test word opening closing b k w o part m kind_ open_ close_ h first lev goes rest =
     let inner = InBody (within b (o ∷ b.opened)) Item in
@@ -366,7 +366,7 @@ mutual
         rests = subst (λ (z : Inside × Stage). RestsAs m (in_body z)) (settled-within false b (InFor a e l ∷ os) os (For a e l s)) body.rests;
       }
 
-  -- the statements of a block, and the brace after them
+  -- the parser reads the statements of a block, and the brace after them
   pub read_statements : (ss : Stmts) (ts : List Measured) (z : Nest) (b : Inside) (done : Stmts) (q : Measured) (m : State) → SpellsStatements (suc (suc (length (body_at z b done).opened))) ts ss → Runs (InBody (body_at z b (appended done ss)) Item) (q ∷ []) m → Runs (InBody (body_at z b done) Item) (ts ++ q ∷ []) m
   read_statements end ts z b done q m h k = subst (λ (ps : List Measured). Runs (InBody (body_at z b done) Item) (ps ++ q ∷ []) m) (sym h) k
   read_statements (next s ss) ts z b done q m h k =

@@ -17,7 +17,7 @@ use Rattle.cc_syntax.specs.internal.ParserView.{parser_view, Advances}
 use Rattle.cc_syntax.proofs.ReadsTokens.{unit_state}
 use Rattle.cc_syntax.proofs.Verdict.{Reached, at_start, reach_next, spelled_within}
 
--- the tokens before an offset led to the state within the limits
+-- the tokens before an offset led to the state, and all of them are within the limits
 pub record ReadTo (text : List ℕ) (s : State) (at : ℕ) : Type 0 where
   pub tokens : List Token
   pub found : FoundBefore text tokens at
@@ -26,11 +26,11 @@ pub record ReadTo (text : List ℕ) (s : State) (at : ℕ) : Type 0 where
 pub read_none : (text : List ℕ) (s : State) → s ≡ start → ReadTo text s 0
 read_none text s e = record { tokens = []; found = found_none text; reached = subst (λ (z : State). Reached z []) (sym e) at_start }
 
--- if the tokens read so far are all tokens before a later offset, they led to the state there too
+-- if the tokens read so far are also all the tokens before a later offset, the state is the one at that offset too
 pub read_blank : (text : List ℕ) (s : State) (at to : ℕ) (r : ReadTo text s at) → FoundBefore text r.tokens to → ReadTo text s to
 read_blank text s at to r f = record { tokens = r.tokens; found = f; reached = r.reached }
 
--- one more token
+-- if the parser accepts one more token, the tokens before the end of that token led to the new state
 pub read_more : {X : Type 0} {v : X} (text : List ℕ) (s : State) (at : ℕ) (t : Token) (p : parser.Parser) (a : Result X stop.Stop) (r : ReadTo text s at) → FoundBefore text (r.tokens ++ t ∷ []) t.to → Advances s (lexeme text t) a p → a ≡ Ok v → ReadTo text (parser_view p) t.to
 read_more {X} {v} text s at t p a r f h e =
     let b = subst (λ (z : Result X stop.Stop). Advances s (lexeme text t) z p) e h in
@@ -41,7 +41,7 @@ read_more {X} {v} text s at t p a r f h e =
       reached = subst (λ (z : List Lexeme). Reached (parser_view p) z) all (reach_next s (parser_view p) (lexemes text r.tokens) (lexeme text t) r.reached b.0 b.1);
     }
 
--- at the end the tree is spelled
+-- if the tokens before the end of the text led to the end of a unit, the text spells the unit's tree
 pub read_all : (text : List ℕ) (s : State) (at : ℕ) (tree : List External) → ReadTo text s at → length text ≤ at → tree_of s ≡ Some tree → SpellsText text tree
 read_all text s at tree r past e =
     let unit = unit_state s tree e in
@@ -51,7 +51,7 @@ read_all text s at tree r past e =
       spelled = spelled_within tree (lexemes text r.tokens) unit.1 (subst (λ (z : State). Reached z (lexemes text r.tokens)) unit.0 r.reached);
     }
 
--- at the end the result is what the text spells
+-- at the end of the text, a result that is not None is the tree that the text spells
 pub read_answered : {E : Type 0} (text : List ℕ) (s : State) (at : ℕ) (view : E → List External) (r : Option E) → ReadTo text s at → length text ≤ at → option_map view r ≡ tree_of s → IfSome r (λ x. SpellsText text (view x))
 read_answered text s at view None read past e = tt
 read_answered text s at view (Some x) read past e = read_all text s at (view x) read past (sym e)

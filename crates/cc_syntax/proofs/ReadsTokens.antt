@@ -34,7 +34,7 @@ goes_on {X} {v} s text ts k d p r i h a e =
 all_of : (s : State) (text : List ℕ) (ts : List Token) (k : ℕ) → length ts ≤ k → Reached s (take k (lexemes text ts)) → Reached s (lexemes text ts)
 all_of s text ts k i h = subst (λ (z : List Lexeme). Reached s z) (take_all k (lexemes text ts) (omega (arith, length-lexemes text ts, i))) h
 
--- the state after a whole unit
+-- if a unit may end in the state, the state is between external declarations
 pub unit_state : (s : State) (tree : List External) → tree_of s ≡ Some tree → (s ≡ AtFile tree Between) × IsUnit tree
 unit_state (AtFile [] o) tree e = absurd (none-some None tree refl e)
 unit_state (AtFile (d ∷ ds) Between) tree e =

@@ -1,4 +1,4 @@
--- A block keeps its statements in a row, and a call its arguments. The tree of each is the same as the tree of its row as a list.
+-- The statements of a block, and the arguments of a call, have the same tree as a row and as a list.
 use Rattle.std.proofs.Common.{◌≡◌, refl, ap}
 use Rattle.cc_ast.specs.Tree.{next, more}
 use Rattle.cc_ast.specs.Erase.{statement_tree, statements_tree, statements_of, expression_tree, expressions_tree}

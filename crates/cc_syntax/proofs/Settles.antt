@@ -1,5 +1,5 @@
--- What the parser does with a complete statement: what it does at once, what it does if an `else` may follow, and what it does
--- after one more token.
+-- What the parser does with a complete statement: what it does immediately, what it does if an `else` may follow, and what it
+-- does after one more token.
 use Rattle.std.proofs.Common.{◌≡◌, true, false, List, [], ◌∷◌, ◌++◌, Option, Some, None, refl, sym, ap, ◌∙◌}
 use Rattle.std.specs.Prelude.{Bool}
 use Rattle.cc_syntax.specs.declared.parser.role.Role.{Role}
@@ -35,7 +35,7 @@ settled-count w b (InWhile e ∷ os) s = settled-count w b os (While e s)
 settled-count w b (InDo ∷ os) s = refl
 settled-count w b (InFor a e l ∷ os) s = settled-count w b os (For a e l s)
 
--- a token after a statement that no `else` follows
+-- after a statement that no `else` follows, `resting_step` is the step of the state
 resting-goes : (b : Inside) (os : List Open) (s : Stmt) (r : Role) (x : Name) → resting_step (settled false b os s) r x ≡ role_step (in_body (settled false b os s)) r x
 resting-goes b [] s r x = refl
 resting-goes b (InBlock ss ∷ os) s r x = refl
@@ -66,7 +66,7 @@ no-else b (InFor a e l ∷ os) s x = no-else b os (For a e l s) x
 pub none-some : {A : Type 0} (o : Option A) (m : A) → o ≡ None → o ≡ Some m → ⊥
 none-some o m h k = let e : None ≡ Some m = sym h ∙ k in cc
 
--- a token other than `else` does the same before and after the decision
+-- at a token other than `else`, the parser does the same whether it still waits for `else` or not
 else-goes : (r : Role) (b : Inside) (os : List Open) (e : Expr) (s : Stmt) (x : Name) (m : State) → role_step (in_body (settled false b os (If e s))) r x ≡ Some m → else_step (within b os) e s r x ≡ Some m
 else-goes role.Else b os e s x m h = absurd (none-some _ m (no-else b os (If e s) x) h)
 else-goes r b os e s x m h = ap (λ (z : Inside × Stage). resting_step z r x) (settled-within false b os os (If e s)) ∙ resting-goes b os (If e s) r x ∙ h

@@ -1,5 +1,5 @@
 -- What the tokens of a full expression spell so far: for each pending part, how it relates to the tokens before it. Reading a
--- token extends this (KeepsExpression).
+-- token extends what they spell (KeepsExpression).
 use Rattle.std.proofs.Common.{◌≡◌, ◌≤◌, ℕ, suc, List, [], ◌∷◌, ◌++◌}
 use Rattle.cc_tokens.specs.declared.scalar.Scalar.{Scalar}
 use Rattle.cc_tokens.specs.declared.token.Punctuator.TheVariants as punctuator
@@ -8,21 +8,21 @@ use Rattle.cc_ast.specs.Tree.{Expr, Exprs, none, more}
 use Rattle.cc_ast.specs.Grammar.{identifier, Marks, IsKeyword, sign_word, SpellsType, SpellsExpression, SpellsArguments, precedence, unary_punctuator, binary_punctuator}
 use Rattle.cc_syntax.specs.internal.Parser.{Waiting, Parenthesis, Index, Arguments, Prefix, Casting, Infix, Then, Otherwise}
 
--- an expression of the level fits here
+-- an expression of the level fits after the pending parts
 abbrev pub Room : ℕ → List Waiting → Type 0
 Room l (Prefix op ∷ ws) = 12 ≤ l
 Room l (Casting t ∷ ws) = 12 ≤ l
 Room l (Infix op a ∷ ws) = suc (precedence op) ≤ l
 Room l _ = 1 ≤ l
 
--- arguments, each with its comma
+-- the tokens spell these arguments, each with its comma
 abbrev pub ArgumentsSoFar : List Lexeme → Exprs → Type 0
 ArgumentsSoFar xs none = xs ≡ []
 ArgumentsSoFar xs (more e es) =
     (prefix : List Lexeme) × (comma : Lexeme) × SpellsArguments prefix (more e es) × Marks punctuator.Comma comma
     × (xs ≡ prefix ++ comma ∷ [])
 
--- what the tokens of the pending parts spell
+-- the tokens spell the pending parts
 abbrev pub WaitingSoFar : List Waiting → List Lexeme → Type 0
 WaitingSoFar [] xs = xs ≡ []
 WaitingSoFar (Parenthesis ∷ ws) xs =
@@ -50,7 +50,7 @@ WaitingSoFar (Otherwise c a ∷ ws) xs =
     × SpellsExpression 1 left a × Room 1 ws × Marks punctuator.Question question × Marks punctuator.Colon colon
     × (xs ≡ prefix ++ (test ++ (question ∷ left ++ colon ∷ [])))
 
--- an operand of some level, after the pending parts
+-- the tokens spell the pending parts and, after them, an operand of at least level `low`
 pub record Holds (ws : List Waiting) (e : Expr) (xs : List Lexeme) (low : ℕ) : Type 0 where
   pub prefix : List Lexeme
   pub part : List Lexeme
@@ -61,7 +61,7 @@ pub record Holds (ws : List Waiting) (e : Expr) (xs : List Lexeme) (low : ℕ) :
   pub tight : low ≤ level
   pub whole : xs ≡ prefix ++ part
 
--- after `signed` or `unsigned` of a cast, or after its type
+-- the tokens spell the pending parts, the parenthesis of a cast, and words after it for which `Word` holds
 pub record Casts (ws : List Waiting) (xs : List Lexeme) (Word : List Lexeme → Type 0) : Type 0 where
   pub prefix : List Lexeme
   pub type : List Lexeme

@@ -1,5 +1,5 @@
--- What the tokens before a state in a body spell. For a statement that has begun, this is described by what would complete it:
--- whatever the missing parts are, with them the tokens spell the statement. So the proof is made once, at the beginning of the
+-- What the tokens before a state in a body spell. A statement that has begun is described by what would complete it: whatever
+-- the missing parts are, the tokens together with them spell the statement. So this is proved once, at the beginning of the
 -- statement, and each further token supplies a part.
 use Rattle.std.proofs.Common.{◌≡◌, ℕ, suc, List, [], ◌∷◌, ◌++◌, ◌⊎◌, length, map, Option, Some}
 use Rattle.cc_tokens.specs.declared.scalar.Scalar.{Scalar}
@@ -13,7 +13,7 @@ use Rattle.cc_syntax.proofs.Forms.{count_after}
 use Rattle.cc_syntax.proofs.ReadsAction.{terminator}
 use Rattle.cc_syntax.proofs.ReadsStatement.{CanStand}
 
--- the level of what begins inside this many open statements
+-- the level of what begins inside these open statements
 abbrev pub depth : List Open → ℕ
 depth os = suc (suc (length os))
 
@@ -21,29 +21,30 @@ depth os = suc (suc (length os))
 abbrev pub first : ℕ → ℕ → Lexeme → Measured
 first level n x = record { token = x; count = n; level = level }
 
--- parts, each with its comma
+-- the tokens spell these parts, each with its comma
 abbrev pub RowSoFar : {A : Type 0} → (List Measured → A → Type 0) → List Measured → List A → Type 0
 RowSoFar {A} Spells ts done =
     ((done ≡ []) × (ts ≡ []))
     ⊎ ((prefix : List Measured) × (comma : Lexeme) × SpellsRow Spells prefix done × Marks punctuator.Comma comma × (ts ≡ prefix ++ outside comma ∷ []))
 
--- before the semicolon of a statement
+-- `mine` are the tokens of the statement before its semicolon
 abbrev pub EndingSoFar : Stmt → List Open → List Measured → Type 0
 EndingSoFar s os mine = ((x : Lexeme) → Marks punctuator.Semicolon x → SpellsStatement (depth os) (mine ++ outside x ∷ []) s) × IsClosed s × IsStatement s
 
--- before a part of an `if` or the body of a loop
+-- `mine` are the tokens of an `if` before its first part
 abbrev pub ThenSoFar : Expr → List Open → List Measured → Type 0
 ThenSoFar e os mine =
     ((part : List Measured) (s : Stmt) → SpellsStatement (suc (depth os)) part s → IsStatement s → SpellsStatement (depth os) (mine ++ part) (If e s))
     × ((part last : List Measured) (other : Lexeme) (s t : Stmt) → SpellsStatement (suc (depth os)) part s → IsStatement s → IsClosed s → IsKeyword keyword.Else other
     → SpellsStatement (suc (depth os)) last t → IsStatement t → SpellsStatement (depth os) (((mine ++ part) ++ outside other ∷ []) ++ last) (IfElse e s t))
 
--- before the last part of a statement
+-- `mine` are the tokens of a statement before its last part
 abbrev pub PartSoFar : (Stmt → Stmt) → List Open → List Measured → Type 0
 PartSoFar whole os mine =
     (part : List Measured) (s : Stmt) → SpellsStatement (suc (depth os)) part s → IsStatement s → SpellsStatement (depth os) (mine ++ part) (whole s)
 
--- after a condition in parentheses, inside the parentheses, and before them
+-- `mine` are the tokens of a statement up to a condition in parentheses, to the inside of the parentheses, or to the place
+-- before them
 abbrev pub TestedSoFar : Test → Expr → List Open → List Measured → Type 0
 TestedSoFar ForIf e os mine = ThenSoFar e os mine
 TestedSoFar ForWhile e os mine = PartSoFar (λ s. While e s) os mine
@@ -57,11 +58,11 @@ ConditionSoFar k os mine =
 abbrev pub TestingSoFar : Test → List Open → List Measured → Type 0
 TestingSoFar k os mine = (opening : Lexeme) → Marks punctuator.OpenParenthesis opening → ConditionSoFar k os (mine ++ outside opening ∷ [])
 
--- after the body of a `do`
+-- `mine` are the tokens of a `do` up to the end of its body
 abbrev pub DoSoFar : Stmt → List Open → List Measured → Type 0
 DoSoFar s os mine = (word : Lexeme) → IsKeyword keyword.While word → TestingSoFar (ForDo s) os (mine ++ outside word ∷ [])
 
--- in the header of a `for`: before its last part, its condition, and its first part
+-- `mine` are the tokens of a `for` before the last part of its header, before the condition, or before the first part
 abbrev pub SteppingSoFar : Beginning → Option Expr → List Open → List Measured → Type 0
 SteppingSoFar a e os mine =
     (last : List Measured) (l : Option Action) (closing : Lexeme) → SpellsOptionalAction last l → Marks punctuator.CloseParenthesis closing
@@ -80,13 +81,13 @@ ReturningSoFar at os mine =
     (operand : List Measured) (e : Option Expr) (x : Lexeme) → SpellsOptional operand e → Marks punctuator.Semicolon x
     → SpellsStatement (depth os) (mine ++ (operand ++ outside x ∷ [])) (Return at e)
 
--- after an action and its terminator, and before the terminator
+-- `mine` are the tokens of a statement up to the token that ends an action
 abbrev pub ActedSoFar : Spot → Action → List Open → List Measured → Type 0
 ActedSoFar AsStatement a os mine = SpellsStatement (depth os) mine (Perform (Some a))
 ActedSoFar AsStart a os mine = GoingSoFar (Performs (Some a)) os mine
 ActedSoFar (AsLast s e) a os mine = PartSoFar (λ t. For s e (Some a) t) os mine
 
--- the tokens of an action: if it is a statement, the first one has the level
+-- the tokens of an action; if the action is a statement, its first token has the statement's level
 abbrev pub leads : Spot → List Open → List Measured → List Measured
 leads AsStatement os ts = begins (depth os) ts
 leads _ os ts = ts
@@ -96,7 +97,7 @@ SpotSoFar p os mine =
     (xs : List Lexeme) (a : Action) (x : Lexeme) → SpellsAction xs a → x.kind ≡ terminator p
     → ActedSoFar p a os (mine ++ leads p os (full xs ++ outside x ∷ []))
 
--- after a declaration, and before its end
+-- `mine` are the tokens of a statement up to the end of a declaration
 abbrev pub DeclaredSoFar : Position → Scalar → List Declarator → List Open → List Measured → Type 0
 DeclaredSoFar AsLocal t ds os mine = SpellsStatement (depth os) mine (Local t ds) × CanStand os (Local t ds)
 DeclaredSoFar AsHeader t ds os mine = GoingSoFar (Declares t ds) os mine
@@ -109,13 +110,13 @@ abbrev pub DeclarationSoFar : Position → List Open → List Measured → Type 
 DeclarationSoFar w os mine =
     (inner : List Measured) (t : Scalar) (ds : List Declarator) → SpellsLocal inner t ds → DeclaredSoFar w t ds os (mine ++ begins (position_level w os) inner)
 
--- after the type and some names of a declaration
+-- `mine` are tokens up to the type and some names of a declaration, and then further tokens
 abbrev pub NamedSoFar : Position → Scalar → List Declarator → List Measured → List Open → List Measured → Type 0
 NamedSoFar w t ds behind os mine =
     (before names : List Measured) × (word : Lexeme) × (others : List Lexeme) × DeclarationSoFar w os before × SpellsType (word ∷ others) t
     × RowSoFar SpellsDeclarator names ds × (mine ≡ before ++ (first (position_level w os) 0 word ∷ (map outside others ++ (names ++ behind))))
 
--- the tokens of a statement that has begun and is not complete
+-- `mine` are the tokens so far of a statement that has begun and is not complete
 abbrev pub OpenSoFar : Open → List Open → List Measured → Type 0
 OpenSoFar (InBlock ss) os mine =
     (opening : Lexeme) × (inner : List Measured) × Marks punctuator.OpenBrace opening × SpellsStatements (suc (depth os)) inner ss
@@ -127,11 +128,11 @@ OpenSoFar InDo os mine =
     (part : List Measured) (s : Stmt) → SpellsStatement (suc (depth os)) part s → IsStatement s → DoSoFar s os (mine ++ part)
 OpenSoFar (InFor a e l) os mine = PartSoFar (λ s. For a e l s) os mine
 
--- the head of a function, after the external declarations before it
+-- the tokens spell the external declarations before a function, and then the function's head
 abbrev pub HeadSoFar : List External → Signature → List Measured → Type 0
 HeadSoFar es f ts = (before head : List Measured) × SpellsExternals before es × SpellsSignature head f × (ts ≡ before ++ head)
 
--- between two statements
+-- between two statements, the tokens spell what has been read of the text
 abbrev pub BodySoFar : List External → Signature → Stmts → List Open → List Measured → Type 0
 BodySoFar es f d [] ts =
     (head inner : List Measured) × (opening : Lexeme) × HeadSoFar es f head × AreNamed f.parameters × Marks punctuator.OpenBrace opening
@@ -139,7 +140,7 @@ BodySoFar es f d [] ts =
 BodySoFar es f d (o ∷ os) ts =
     (before mine : List Measured) × BodySoFar es f d os before × OpenSoFar o os mine × (ts ≡ before ++ mine)
 
--- a statement that has begun, outside full expressions
+-- `mine` are the tokens so far of the innermost statement, outside full expressions
 abbrev pub StageSoFar : Stage → List Open → List Measured → Type 0
 StageSoFar Item os mine = mine ≡ []
 StageSoFar (AfterThen e s) os mine =
@@ -166,7 +167,7 @@ StageSoFar (Stepped op t p k) os mine =
     (before : List Measured) × (x : Lexeme) × (xs : List Lexeme) × SpotSoFar p os before × SpellsAction (x ∷ xs) (Step op t) × (k ≡ count_after 0 (x ∷ xs))
     × (mine ≡ before ++ leads p os (full (x ∷ xs)))
 
--- the place of an action with this purpose
+-- what the action is that a full expression with this purpose belongs to
 abbrev pub spot_of : Purpose → Spot
 spot_of (ToPerform p) = p
 spot_of (ToAssign op t p) = p

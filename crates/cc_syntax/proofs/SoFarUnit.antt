@@ -1,4 +1,4 @@
--- What the tokens before any state spell: at file scope, in a body, in a full expression.
+-- What the tokens before any state spell: at file scope, in a body, or in a full expression.
 use Rattle.std.proofs.Common.{◌≡◌, ℕ, List, [], ◌∷◌, ◌++◌, map, Option, IfSome}
 use Rattle.cc_tokens.specs.declared.token.Keyword.TheVariants as keyword
 use Rattle.cc_tokens.specs.declared.token.Punctuator.TheVariants as punctuator
@@ -13,13 +13,13 @@ use Rattle.cc_syntax.proofs.SoFarBody.{RowSoFar, BodySoFar, PurposeSoFar, leads,
 use Rattle.cc_syntax.proofs.KeepsPhase.{PhaseSoFar}
 use Rattle.cc_syntax.proofs.KeepsBody.{InBodySoFar}
 
--- a function's result, name, parenthesis and parameters so far, and the tokens after them
+-- `mine` are a function's result, name, parenthesis and parameters so far, and then further tokens
 abbrev pub ParametersSoFar : Signature → (List Measured → Type 0) → List Measured → List Measured → Type 0
 ParametersSoFar f Row behind mine =
     (type : List Lexeme) × (opening : Lexeme) × (row : List Measured) × SpellsResult type f.result × Marks punctuator.OpenParenthesis opening × Row row
     × (mine ≡ map outside type ++ (outside (identifier f.name) ∷ outside opening ∷ row ++ behind))
 
--- the tokens before the names of objects of this kind, and one name
+-- the tokens spell what precedes the names of objects of this kind, or one such name
 abbrev pub SpellsKind : ObjectKind → List Lexeme → Type 0
 SpellsKind (Words t) ts = SpellsType ts t
 SpellsKind Bytes ts = SpellsUnsignedChar ts
@@ -32,7 +32,7 @@ abbrev pub AreWords : ObjectKind → Type 0
 AreWords (Words t) = Unit {0}
 AreWords Bytes = ⊥
 
--- the type in a declaration of objects, the objects so far, and the tokens after them
+-- `mine` are the type in a declaration of objects, the objects so far, and then further tokens
 abbrev pub ObjectsSoFar : ObjectKind → (List Measured → Type 0) → List Measured → List Measured → Type 0
 ObjectsSoFar t Row behind mine =
     (type : List Lexeme) × (row : List Measured) × SpellsKind t type × Row row × (mine ≡ map outside type ++ (row ++ behind))
@@ -40,7 +40,7 @@ ObjectsSoFar t Row behind mine =
 abbrev pub NamingSoFar : Naming → List Measured → List Measured → Type 0
 NamingSoFar n behind mine = ObjectsSoFar n.kind (λ row. RowSoFar (SpellsName n.kind) row n.objects) (outside (identifier n.name) ∷ behind) mine
 
--- an external declaration that has begun
+-- `mine` are the tokens so far of an external declaration that has begun
 abbrev pub OuterSoFar : Outer → List Measured → Type 0
 OuterSoFar Between mine = mine ≡ []
 OuterSoFar (ResultSign t) mine = (word : Lexeme) × IsKeyword (sign_word t) word × (mine ≡ outside word ∷ [])
@@ -69,7 +69,7 @@ OuterSoFar (Valuing n size vs) mine =
     × NamingSoFar n (outside opening ∷ inner ++ (outside closing ∷ outside sign ∷ outside brace ∷ row)) mine
 OuterSoFar (Listed t os) mine = ObjectsSoFar t (λ row. SpellsRow (SpellsName t) row os) [] mine
 
--- an external declaration after those that are complete
+-- the tokens spell the complete external declarations, and then what has been read of the next one
 abbrev pub AtFileSoFar : List External → Outer → List Measured → Type 0
 AtFileSoFar es o ts = (before mine : List Measured) × SpellsExternals before es × OuterSoFar o mine × (ts ≡ before ++ mine)
 
@@ -85,12 +85,12 @@ ContextSoFar (OfBody b p) ts xs =
     (before mine : List Measured) × BodySoFar b.externals b.signature b.finished b.opened before × PurposeSoFar p b.opened mine xs × (ts ≡ before ++ mine)
 ContextSoFar (OfObject es n p) ts xs = (xs ≡ []) × AtFileSoFar es (part_outer n p) ts
 
--- the tokens of a full expression: if its action is a statement, the first one has the level
+-- the tokens of a full expression; if its action is a statement, the first token has the statement's level
 abbrev pub leads_of : Context → List Measured → List Measured
 leads_of (OfBody b p) ts = leads (spot_of p) b.opened ts
 leads_of (OfObject es n p) ts = ts
 
--- a constant expression begins at the offset that was noted
+-- the recorded offset at which the constant expression begins
 abbrev pub offset_of : Part → ℕ
 offset_of (ToSize at) = at
 offset_of (ToSingle at) = at
@@ -111,12 +111,12 @@ pub record FullSoFar (c : Context) (ws : List Waiting) (k : ℕ) (p : Phase) (ts
   pub joins : (qs : List Measured) → leads_of c (full (prefix ++ xs) ++ qs) ≡ leads_of c (full (prefix ++ xs)) ++ qs
   pub whole : ts ≡ before ++ leads_of c (full (prefix ++ xs))
 
--- the tokens so far lead to the state and spell what it has
+-- the tokens so far spell what the state says has been read
 abbrev pub SoFar : State → List Measured → Type 0
 SoFar (AtFile es o) ts = AtFileSoFar es o ts
 SoFar (InBody b s) ts = InBodySoFar (b, s) ts
 SoFar (InFull f p) ts = FullSoFar f.context f.waiting f.count p ts
 
--- if there is a state after a token, the tokens up to and including it lead there
+-- if there is a state after a token, the tokens up to and including that one spell what the state says
 abbrev pub Kept : Option State → List Measured → Lexeme → ℕ → Type 0
 Kept o ts x l = IfSome o (λ m. SoFar m (ts ++ record { token = x; count = count_of m; level = l } ∷ []))

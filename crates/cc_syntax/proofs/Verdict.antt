@@ -1,5 +1,5 @@
 -- The parser stops at the first token that breaks the grammar or a limit: some unit continues from what it has read (Finishes,
--- Keeps), and every unit that begins with these tokens is read through the same states (ReadsExternal).
+-- Keeps), and the parser reads every unit that begins with these tokens through the same states (ReadsExternal).
 use Rattle.std.proofs.Common.{◌≡◌, ◌<◌, ◌≤◌, ℕ, zero, suc, List, [], ◌∷◌, ◌++◌, length, take, drop, Option, Some, None, refl, sym, ap, subst, ◌∙◌, arith, append_assoc, inl, inr}
 use Rattle.std.specs.List.{AllByRecursion}
 use Rattle.std.proofs.lemmas.List.{map-append, take-append-drop}
@@ -72,7 +72,7 @@ begins_from s xs r =
       ),
     )
 
--- the tokens before an index, and the one at it
+-- the token at the index `k` is `x`
 pub record IsCutAt (tokens : List Lexeme) (k : ℕ) (x : Lexeme) : Type 0 where
   pub inside : k < length tokens
   pub next : take (suc k) tokens ≡ take k tokens ++ x ∷ []
@@ -95,7 +95,7 @@ unexpected s tokens k x r c h = inl (c.inside, no_unit)
         let rest = follow r.placed b.2.0 start s (AtFile b.1 Between) (x ∷ b.0) r.runs (read_unit b.1 b.2.0 b.2.1) same in
         stuck (AtFile b.1 Between) rest.0 b.0 rest.2 rest.3
 
--- if the text ends before a unit does, the tokens spell no tree
+-- if no unit may end at the end of the text, the text's tokens spell no tree
 pub unexpected_end : (s : State) (tokens : List Lexeme) (k : ℕ) → Reached s tokens → k ≡ length tokens → tree_of s ≡ None → UnexpectedAt tokens k
 unexpected_end s tokens k r e h = inr (e, λ tree spelled. none tree spelled.0 spelled.1 (runs-one start s (AtFile tree Between) r.placed spelled.0 r.runs (read_unit tree spelled.0 spelled.1) (r.same ∙ sym spelled.2)).1)
   where
@@ -103,7 +103,7 @@ unexpected_end s tokens k r e h = inr (e, λ tree spelled. none tree spelled.0 s
     none [] ts u t = absurd u
     none (d ∷ ds) ts u t = let e : None ≡ Some (d ∷ ds) = sym h ∙ ap (λ (z : State). tree_of z) t in cc
 
--- a token read within the limits is too deep in no unit
+-- a token that was read within the limits is not too deep in any unit
 in_run : (placed prefix rest : List Measured) (p : Measured) (s : State) (tree : List External) (zs : List Lexeme) → Runs start placed s → AllByRecursion IsWithin placed → SpellsUnit (prefix ++ p ∷ rest) tree → plain_tokens placed ≡ plain_tokens (prefix ++ p ∷ []) ++ zs → PassesLimit p → ⊥
 in_run placed prefix rest p s tree zs runs fine unit same past =
     let whole = subst (λ (z : List Measured). Runs start z (AtFile tree Between)) (sym (append_assoc prefix (p ∷ []) rest)) (read_unit tree (prefix ++ p ∷ rest) unit) in
@@ -128,7 +128,7 @@ none_too_deep s tokens k r j h d =
 pub fine_before : (s : State) (tokens : List Lexeme) (k : ℕ) → Reached s (take k tokens) → IsFineBefore tokens k
 fine_before s tokens k r = (begins_from s (take k tokens) r, none_too_deep s tokens k r)
 
--- a token that exceeds a limit
+-- if a token that the parser reaches exceeds a limit, the token is too deep in the list
 pub too_deep : (s m : State) (tokens : List Lexeme) (k : ℕ) (x : Lexeme) → Reached s (take k tokens) → IsCutAt tokens k x → step s x ≡ Some m → PassesLimit (standing s x m) → TooDeepAt tokens k
 too_deep s m tokens k x r c h past =
     let f = finishes m in
@@ -145,7 +145,7 @@ too_deep s m tokens k x r c h past =
       plain_tokens-append r.placed (p ∷ []) ∙ ap (λ (z : List Lexeme). z ++ x ∷ []) r.same ∙ sym c.next,
     )
 
--- one more token within the limits
+-- if the parser has reached a state, it reaches the next one over a token within the limits
 pub reach_next : (s m : State) (xs : List Lexeme) (x : Lexeme) → Reached s xs → step s x ≡ Some m → IsWithin (standing s x m) → Reached m (xs ++ x ∷ [])
 reach_next s m xs x r h within =
     let p = standing s x m in
@@ -156,14 +156,15 @@ reach_next s m xs x r h within =
       same = plain_tokens-append r.placed (p ∷ []) ∙ ap (λ (z : List Lexeme). z ++ x ∷ []) r.same;
     }
 
--- a token within the limits
+-- once the parser has reached the token at the index `k`, it reaches the next state over that token, if the token is within
+-- the limits
 pub reach : (s m : State) (tokens : List Lexeme) (k : ℕ) (x : Lexeme) → Reached s (take k tokens) → IsCutAt tokens k x → step s x ≡ Some m → IsWithin (standing s x m) → Reached m (take (suc k) tokens)
 reach s m tokens k x r c h within = subst (λ (z : List Lexeme). Reached m z) (sym c.next) (reach_next s m (take k tokens) x r h within)
 
 pub at_start : Reached start []
 at_start = record { placed = []; runs = refl; fine = tt; same = refl }
 
--- at the end of a unit its tree is spelled
+-- if the parser has reached the end of a unit, the tokens spell its tree within the limits
 pub spelled_within : (tree : List External) (tokens : List Lexeme) → IsUnit tree → Reached (AtFile tree Between) tokens → SpellsWithin tokens tree
 spelled_within tree tokens u r = (r.placed, unit_spelled tree r.placed u r.runs, r.fine, r.same)
 

@@ -1,4 +1,4 @@
--- What the parser's stacks and lists look like after a push and before a pop.
+-- What the views of the parser's stacks and lists are after a push and before a pop.
 use Rattle.std.proofs.Common.{◌≡◌, List, [], ◌∷◌, ◌++◌, map, reverse, ap, ◌∙◌, refl}
 use Rattle.std.proofs.lemmas.List.{map-append, reverse-append}
 use Rattle.cc_ast.specs.Tree.{next, more}

@@ -1,10 +1,11 @@
-// The tree that the tokens of a text spell.
+// Finds the tree that the tokens of a text spell.
 //
-// The parser reads the tokens once, and its state is changed in place. No call is nested deeper for a deeper text.
+// The parser reads the tokens in order, without going back, and changes its state in place. Deeper nesting in the text causes no
+// deeper recursion.
 //
 // - `state`: the parser's state between two tokens.
 // - `step`: what one token does, depending on what is being read.
-// - `cursor`: a token in its text; `role`: what a token is to the grammar.
+// - `cursor`: a token in its text; `role`: the role of a token in the grammar.
 // - `outer` and `objects`: tokens at file scope.
 // - `body`, with `settle` for the ends of statements: tokens in a function's body.
 // - `operand` and `operator`: tokens in a full expression, with `expression` for pending operators, `count` for the limit, and
@@ -57,7 +58,7 @@ fn place_of_token(text: &[u8], tokens: &[Token], number: usize) -> Place
     }
 }
 
-/// The fault for a text whose tokens were refused, by the grammar, a limit, or lack of memory.
+/// The fault for a text whose tokens were refused because of the grammar, a limit, or lack of memory.
 fn fault_of(text: &[u8], tokens: &[Token], refusal: Refusal) -> SyntaxFault
     requires fits { length text.now ≤ most_bytes }
     requires ordered { AreInOrder 0 tokens.now (length text.now) }
@@ -87,7 +88,7 @@ fn unit_of(alloc: Global, text: &[u8], externals: Vec<External>) -> Result<Unit,
 }
 
 impl Parser {
-    /// Parses a text by way of a list of its tokens.
+    /// Parses a text after making a list of its tokens.
     fn parse_list(&mut self, text: &[u8]) -> Result<Unit, SyntaxFault>
         ensures { IsParse text.now result }
     {
@@ -134,10 +135,10 @@ fn parse_text(alloc: Global, text: &[u8]) -> Result<Unit, SyntaxFault>
 
 /// Returns the text with the tree that it spells (C99 6.5 to 6.9, and the profile's grammar).
 ///
-/// Refuses with 7 (SourceTooLarge) or 1 to 4, as `tokens` does. Otherwise it refuses with 5 or 6 at the first token that is
-/// wrong. The fault is 5 (Unexpected) if no unit begins with the tokens up to and including that one; the end of the text counts
-/// as a last token. It is 6 (TooDeep) if the token comes after the 512th of its full expression, or begins a statement or
-/// declaration below level 64. It refuses with 40 (OutOfMemory) if memory runs out.
+/// Refuses with 7 (SourceTooLarge) or a lexical error (1 to 4), as `tokens` does. Otherwise it refuses with 5 or 6 at the first
+/// token that is wrong. The fault is 5 (Unexpected) if no unit begins with the tokens up to and including that one; the end of
+/// the text counts as a last token. It is 6 (TooDeep) if the token comes after the 512th of its full expression, or begins a
+/// statement or declaration below level 64. It refuses with 40 (OutOfMemory) if memory runs out.
 pub fn parse(alloc: Global, text: &[u8]) -> Result<Unit, SyntaxFault>
     ensures fits { IfOk result (λ _. length text.now ≤ most_bytes) }
     ensures text { IfOk result (λ u. (source u).text ≡ text.now) }

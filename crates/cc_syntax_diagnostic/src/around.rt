@@ -24,7 +24,7 @@ fn not_closed(byte: u8) -> &'static str {
     }
 }
 
-// What closes a bracket, in quotes as in a list.
+// The token that closes a bracket, in quotes, as it is in a list of expected tokens.
 fn closing(byte: u8) -> &'static [u8] {
     match byte {
         b'(' => b"')'",
@@ -240,7 +240,8 @@ impl<'a> Around<'a> {
         }
     }
 
-    /// A note about the innermost bracket that is open, if what closes it is in a list and the token begins no operand.
+    /// A note about the innermost bracket that is open, if the list has the token that closes it, and the token at hand
+    /// does not begin an operand.
     pub fn left_open(&self, list: &[&str]) -> Option<Related> {
         let bracket = self.open()?;
         let closing = closing(self.first_byte(bracket));

@@ -39,8 +39,8 @@ fn write_line<W: Write>(
 
 impl Diagnostic {
     /// Writes the message's line in the form that editors read, such as `-:4:2: 'totl' is not declared`, and below it the line of
-    /// the text with a caret; then the same for the other place, after `note: `. A message about no byte has only its line, such
-    /// as `-: the text has more than 65536 bytes`. Fails if the writer does.
+    /// the text with a caret; then the same for the other place, after `note: `. A message that is not about a byte is written as
+    /// one line, such as `-: the text has more than 65536 bytes`. Fails if the writer does.
     pub fn write<W: Write>(&self, text: &[u8], writer: &mut W) -> io::Result<()> {
         let message = self.message.as_str();
         let Some(at) = self.at else {

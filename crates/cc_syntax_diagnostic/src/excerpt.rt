@@ -17,7 +17,7 @@ struct Excerpt<'a> {
     behind: &'a [u8],
 }
 
-// The last bytes, from the end of the previous line on, at most 80.
+// The last line of these bytes, cut to its last 80 bytes.
 fn end_of_line_before(bytes: &[u8]) -> &[u8] {
     let length = bytes
         .iter()
@@ -28,7 +28,7 @@ fn end_of_line_before(bytes: &[u8]) -> &[u8] {
     &bytes[bytes.len() - length..]
 }
 
-// The first bytes, up to the end of their line, at most 80.
+// The first line of these bytes, cut to its first 80 bytes.
 fn line_behind(bytes: &[u8]) -> &[u8] {
     let length = bytes
         .iter()

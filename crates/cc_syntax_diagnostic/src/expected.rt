@@ -1,8 +1,9 @@
 // Which tokens could come in place of an unexpected one.
 //
-// The parser itself decides: the text before the token is parsed with a candidate after it. If the parser then only misses
-// something at the very end, the candidate could come there. So the report agrees with the grammar by construction. Only the
-// external declaration that has the token is kept from the text before it; earlier declarations are complete.
+// The parser itself decides: the text before the token is parsed with a candidate after it. If the parser's only fault is then
+// that something is missing at the very end, the candidate could come there. So the report agrees with the grammar by
+// construction. From the text before the token, only the external declaration around it is kept; earlier declarations are
+// complete.
 
 use cc_syntax::{Punctuator, SyntaxFault, Token, TokenKind, parse, place_at};
 use std::alloc::{AllocError, Global};
@@ -163,7 +164,10 @@ impl Prefix {
         } else {
             self.add_beginning(alloc, &mut words)?
         };
-        self.add(alloc, others.phrases(), &mut words)?;
+        if let Others::All = others {
+            self.add(alloc, &STARTS, &mut words)?;
+        }
+        self.add(alloc, others.ends(), &mut words)?;
         Ok(words)
     }
 }
@@ -187,11 +191,11 @@ enum Others {
 }
 
 impl Others {
-    fn phrases(self) -> &'static [Phrase] {
+    // What is reported last.
+    fn ends(self) -> &'static [Phrase] {
         match self {
             Others::BlockEnd => &BLOCK_END,
-            Others::Ends => &ENDS,
-            Others::All => &OTHERS,
+            Others::Ends | Others::All => &ENDS,
         }
     }
 }
@@ -235,7 +239,7 @@ static BLOCK_END: [Phrase; 1] = [Phrase {
     candidates: &["}"],
 }];
 
-static OTHERS: [Phrase; 11] = [
+static STARTS: [Phrase; 5] = [
     Phrase {
         words: "'while'",
         candidates: &["while"],
@@ -256,33 +260,9 @@ static OTHERS: [Phrase; 11] = [
         words: "'{'",
         candidates: &["{"],
     },
-    Phrase {
-        words: "','",
-        candidates: &[","],
-    },
-    Phrase {
-        words: "';'",
-        candidates: &[";"],
-    },
-    Phrase {
-        words: "')'",
-        candidates: &[")"],
-    },
-    Phrase {
-        words: "']'",
-        candidates: &["]"],
-    },
-    Phrase {
-        words: "'}'",
-        candidates: &["}"],
-    },
-    Phrase {
-        words: "':'",
-        candidates: &[":"],
-    },
 ];
 
-// The first one that fits is reported.
+// The first beginning that fits is reported.
 static BEGINNINGS: [Beginning; 5] = [
     Beginning {
         phrase: Phrase {

@@ -30,7 +30,8 @@ pub fn said_of_foreign(word: &[u8]) -> Option<&'static str> {
     said_of(&FOREIGN, word)
 }
 
-/// The keywords of C99 (6.4.1) that no text of this C has. `char` occurs only in declarations of byte arrays.
+/// The keywords of C99 (6.4.1) that this C leaves out, and `char`, which it allows only in declarations of byte
+/// arrays.
 pub static KEYWORDS: [Entry; 26] = [
     ("auto", "there is no auto in this C; leave it out"),
     ("case", "there is no case in this C; write if and else"),

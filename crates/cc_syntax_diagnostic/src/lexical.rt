@@ -113,7 +113,7 @@ fn begins(number: &[u8], lower: &[u8], upper: &[u8]) -> bool {
     number.starts_with(lower) || number.starts_with(upper)
 }
 
-// Whether a number has any of these bytes.
+// Whether a number contains any of these bytes.
 fn has(number: &[u8], bytes: &[u8]) -> bool {
     for b in number {
         if bytes.contains(b) {

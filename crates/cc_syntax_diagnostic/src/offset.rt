@@ -41,7 +41,7 @@ pub fn offset_in(text: &[u8], place: Option<Place>) -> Option<usize>
     }
 }
 
-/// A new offset in place of another, if there is one; the text's end for an offset past it.
+/// Replaces an offset, if there is one, with `to`, or with the text's end if `to` is past it.
 pub fn moved(at: Option<usize>, to: usize, text: &[u8]) -> Option<usize>
     ensures same { is_some result ≡ is_some at }
     ensures within { IfSome result (λ at. at ≤ length text.now) }

@@ -140,7 +140,7 @@ fn is_behind_byte_name(around: &Around<'_>) -> bool {
     is_name(around.last(0)) && around.is(around.last(1), b"char")
 }
 
-// What to say about a token, by its spelling and its surroundings.
+// What to say about a token, given its spelling and its surroundings.
 fn said(around: &Around<'_>, bytes: &[u8]) -> Option<&'static str> {
     match bytes {
         _ if is_behind_byte_name(around) => Some(SINGLE_BYTES),
@@ -220,7 +220,7 @@ fn is_declared(around: &Around<'_>, name: Token) -> bool {
     is_one_of(before, &[b"int", b"unsigned", b"signed", b"void", b"char"])
 }
 
-// What to say about a name that does not occur before: it is a word of another language, or nearly a keyword.
+// What to say about a name that did not occur before: it is a word of another language, or nearly a keyword.
 fn of_name<'a>(around: &Around<'a>, name: Option<Token>) -> Option<Reason<'a>> {
     let name = name?;
     let found = around.bytes(Some(name));

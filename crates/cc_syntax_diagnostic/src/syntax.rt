@@ -49,7 +49,7 @@ fn add_list(message: &mut String, list: &[&str]) -> Result<(), AllocError> {
     Ok(())
 }
 
-// The tokens of a text; an empty list if the text has none.
+// The tokens of a text; an empty list if it cannot be split into tokens.
 fn tokens_of(alloc: Global, text: &[u8]) -> Result<Vec<Token>, AllocError> {
     match tokens(alloc, text) {
         Ok(found) => Ok(found),
@@ -107,12 +107,12 @@ fn missing(alloc: Global, around: &Around<'_>, list: &[&str]) -> Result<Told, Al
     })
 }
 
-// Whether a word of a list ends something.
+// Whether a word of a list ends something, as `;` and `)` do.
 fn ends(word: &str) -> bool {
     matches!(word.as_bytes(), [_, b';' | b')' | b']' | b'}', _])
 }
 
-// Whether one word of a list ends something.
+// Whether any word of a list ends something.
 fn one_ends(list: &[&str]) -> bool {
     for word in list {
         if ends(word) {
@@ -131,7 +131,7 @@ fn is_missing(list: &[&str]) -> bool {
     !begins && one_ends(list)
 }
 
-// Reports a token by what could come in its place: as missing or as unexpected.
+// Reports that something is missing before a token, or that the token is unexpected, depending on what could come in its place.
 fn by_list(alloc: Global, around: &Around<'_>, list: &[&str]) -> Result<Told, AllocError> {
     if is_missing(list) {
         missing(alloc, around, list)
@@ -189,7 +189,7 @@ fn gives_way(around: &Around<'_>, reason: Reason<'_>) -> bool {
     reason.is_keyword || (reason.at == around.at() && around.begins_line())
 }
 
-// Reports an unexpected token, which is one of these.
+// Reports the unexpected token at an offset, given all tokens of the text.
 fn unexpected_of(
     alloc: Global,
     text: &[u8],
@@ -267,8 +267,8 @@ fn told_at(alloc: Global, text: &[u8], fault: &SyntaxFault, at: usize) -> Result
     }
 }
 
-/// Makes a diagnostic of the fault that `parse` returned for a text: which byte, number or token was found, and what could come there,
-/// what is missing before it, or what to write instead of what this C leaves out; or which limit was exceeded. If something is
+/// Makes a diagnostic for the fault that `parse` returned for a text: which byte, number or token was found, and what could come
+/// there, what is missing before it, or what to write instead of what this C leaves out; or which limit was exceeded. If something is
 /// missing, the diagnostic's place is after the token before it; if a word is misspelt, the place is at that word.
 ///
 /// `AllocError` if memory runs out.

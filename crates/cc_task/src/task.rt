@@ -6,9 +6,9 @@ pub const MOST_STEPS: u64 = 1_000_000_000;
 /// How an image is compiled.
 #[derive(Clone, Copy, Debug, Drop, PartialEq, Eq)]
 pub enum Kind {
-    /// It owes nothing once the program goes wrong.
+    /// Once the program goes wrong, nothing is promised about the image.
     Plain,
-    /// Once the program goes wrong, it goes on for ever and writes nothing more.
+    /// Once the program goes wrong, the image goes on for ever and writes nothing more.
     Checked,
 }
 
@@ -29,7 +29,7 @@ pub enum Task {
     Asm(Kind),
     /// Compile the program and write its image as Intel HEX.
     Image(Kind),
-    /// Compile the program and say what its image takes.
+    /// Compile the program and say how much memory its image takes.
     Size(Kind),
     /// Say whether the program can't go wrong.
     Safe,

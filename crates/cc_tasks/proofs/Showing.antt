@@ -9,7 +9,7 @@ use Rattle.cc_tasks.specs.internal.Shown.{IsUnknown}
 use Rattle.cc_tasks.specs.internal.Stages.{fault_of_stages}
 use Rattle.cc_tasks.specs.declared.fault.Fault.TheVariants.{UnknownFunction}
 
--- 59 comes only from a 59 of the stages
+-- the fault is 59 only if the stages' fault is 59
 pub unknown_stage : (f : StagesFault) → fault_of_stages f ≡ UnknownFunction → f ≡ stages.UnknownFunction
 unknown_stage stages.UnknownFunction e = refl
 unknown_stage (stages.Piece f) e = absurd (cc)
@@ -17,7 +17,7 @@ unknown_stage (stages.Link f) e = absurd (cc)
 unknown_stage stages.OutOfMemory e = absurd (cc)
 unknown_stage stages.Write e = absurd (cc)
 
--- a name that a text's unit does not define is one that the text's program does not define
+-- if a text's unit does not define a name, the text's program does not define it either
 pub unknown_in : {N : Type 0} (text : List ℕ) (s : Source) (bytes : N → List ℕ) → s.text ≡ text → IsProgramText text s.externals → (function : Option N)
     → MatchOption function ⊥ (λ name. ¬ IsDefined s (bytes name)) → MatchOption function ⊥ (λ name. IsUnknown text (bytes name))
 unknown_in text s bytes whose is None why = why

@@ -14,31 +14,31 @@ use Rattle.cc_tasks.specs.declared.explain.Matter.{Matter}
 use Rattle.cc_tasks.specs.declared.fault.Fault.{Fault}
 use Rattle.cc_tasks.specs.declared.fault.Fault.TheVariants.{Text, Meaning, Piece, Link, UnknownFunction, OutOfMemory, Read, Write}
 
--- a text that was written and then flushed
+-- if a text was appended and the writer was then flushed, the text is written
 pub written : {T E U : Type 0} (write : Result T E) (answer : Result U Fault) (a b c : Option (List ℕ)) (text : List ℕ) → OnOk write (Appends a b text) → Flushes write b c answer → Writes a c text answer
 written (Ok done) (Ok sent) a b c text one two = Appends-kept a b c text one two
 written (Err e) (Ok sent) a b c text one two = absurd two
 written (Ok done) (Err fault) a b c text one two = two
 written (Err e) (Err fault) a b c text one two = two
 
--- a fault's line that was written and flushed
+-- if a fault's line was appended and the writer was then flushed, the fault is reported
 pub refused_by : {T E U : Type 0} (write : Result T E) (done : U) (a b c : Option (List ℕ)) (fault : Fault) (text : List ℕ)
     → OnOk write (Appends a b (fault_text text fault)) → Flushes write b c (let r : Result U Fault = Ok done in r) → RefusesBy fault text a c fault
 refused_by (Ok d) done a b c fault text one two = inr (refl, Appends-kept a b c _ one two)
 refused_by (Err e) done a b c fault text one two = absurd two
 
--- an answer that was written
+-- if the text of a task's answer was written, what `tell` promises holds
 pub told_answer : (answer : Result Matter Fault) (task : Task) (text : List ℕ) (a b : Option (List ℕ)) (it : Answer) → Answers task text it → Writes a b (answer_text it) answer → IfOk answer (λ m. matter_status m ≡ answer_status it)
     → TellsOf task text a b answer
 told_answer (Ok matter) task text a b it is written same = (record { answer = it; answers = is; written = written }, same)
 told_answer (Err fault) task text a b it is written same = inl written
 
--- a fault whose line was written
+-- if a text has a fault and its line was written, the text is refused with that fault
 pub told_fault : (task : Task) (text : List ℕ) (a b : Option (List ℕ)) (fault told : Fault) → IsRefused task text fault → RefusesBy fault text a b told → IsRefusedFor task text a b told
 told_fault task text a b fault told why (inl unwritten) = inl unwritten
 told_fault task text a b fault told why (inr by) = inr (subst (λ (f : Fault). IsRefused task text f × Appends a b (fault_text text f)) (sym by.0) (why, by.1))
 
--- some text of a reader
+-- the text of a reader if it is known, else the empty text
 text_of : Option (List ℕ) → List ℕ
 text_of None = []
 text_of (Some bytes) = take 65537 bytes
@@ -48,7 +48,7 @@ unfolding text_of
 is_text_of None = tt
 is_text_of (Some bytes) = refl
 
--- memory may be refused at each task
+-- every task may be refused for lack of memory
 lacks_memory : (task : Task) (text : List ℕ) → IsRefused task text OutOfMemory
 lacks_memory asked.Check text = tt
 lacks_memory (asked.Interpret steps words) text = tt
@@ -60,7 +60,7 @@ lacks_memory (asked.Image kind) text = tt
 lacks_memory (asked.Size kind) text = tt
 lacks_memory asked.Safe text = tt
 
--- a text that could not be read
+-- if a text could not be read, and the fault's line was written, no task has an answer
 pub unread : (input a b : Option (List ℕ)) (fault told : Fault) → (fault ≡ Read) ⊎ (fault ≡ OutOfMemory) → RefusesBy fault [] a b told → (task : Task) → HasNoAnswer task input a b told
 unread input a b fault told why (inl unwritten) task = inl unwritten
 unread input a b fault told (inl is) (inr by) task = inr (inl (by.0 ∙ is, subst (λ (f : Fault). Appends a b (fault_text [] f)) is by.1))
@@ -71,12 +71,12 @@ unread input a b fault told (inr is) (inr by) task = inr (inr (subst (λ (f : Fa
   written = subst (λ (f : Fault). Appends a b (fault_text [] f)) is by.1;
 })))
 
--- a task that was not done, since memory ran out before a text was there
+-- if memory ran out before there was a text, the task ended with that fault
 pub undone : (answer : Result Matter Fault) (task : Task) (input a b : Option (List ℕ)) → IsErrAnd answer (λ told. RefusesBy OutOfMemory [] a b told) → IsDoneFor task input a b answer
 undone (Ok did) task input a b by = absurd by
 undone (Err told) task input a b by = unread input a b OutOfMemory told (inr refl) by task
 
--- a task that was done for the text that was read
+-- if a task was done for the text that was read, it was done for the reader's text
 pub done : (answer : Result Matter Fault) (task : Task) (input a b c : Option (List ℕ)) (text : List ℕ) → IsTextOf input text → b ≡ a → TellsOf task text b c answer → IsDoneFor task input a c answer
 done (Ok matter) task input a b c text read same told =
     (record { text = text; read = read; answer = told.0.answer; answers = told.0.answers; written = subst (λ (o : Option (List ℕ)). Appends o c (answer_text told.0.answer)) same told.0.written }, told.1)
@@ -84,7 +84,7 @@ done (Err fault) task input a b c text read same (inl unwritten) = inl unwritten
 done (Err fault) task input a b c text read same (inr by) =
     inr (inr (record { text = text; read = read; refused = by.0; written = subst (λ (o : Option (List ℕ)). Appends o c (fault_text text fault)) same by.1 }))
 
--- what follows from a fault
+-- if a task has no answer, and its status is 1, then it was performed with that status
 of_fault : (task : Task) (input a b : Option (List ℕ)) (status : ℕ) (fault : Fault) → HasNoAnswer task input a b fault → status ≡ 1 → IsPerformed task input a b status (is_told fault)
 of_fault task input a b status Write is it = it
 of_fault task input a b status (Text f) (inl e) it = absurd (cc)
@@ -102,7 +102,7 @@ of_fault task input a b status OutOfMemory (inr is) it = inr (it, (OutOfMemory, 
 of_fault task input a b status Read (inl e) it = absurd (cc)
 of_fault task input a b status Read (inr is) it = inr (it, (Read, is))
 
--- the status of a task that was done, and whether all is written
+-- a task that was done was performed, with that status, and with all written if `written` says so
 pub performed : (answer : Result Matter Fault) (task : Task) (input a b : Option (List ℕ)) (status : ℕ) (written : Bool) → IsDoneFor task input a b answer → status ≡ status_of answer → written ≡ written_of answer
     → IsPerformed task input a b status written
 performed (Ok matter) task input a b status written is it whole = subst (λ (w : Bool). IsPerformed task input a b status w) (sym whole) (inl (is.0, it ∙ is.1))

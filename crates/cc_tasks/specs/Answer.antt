@@ -59,34 +59,34 @@ IsRanCounted steps words text (RanCounted done) =
     (p : ProgramOf text) × (outcome_tree done.outcome ≡ source_behavior p.program words steps) × IsStepCount p.program steps words done.steps
 IsRanCounted steps words text answer = ⊥
 
--- what `run --count` answers: what such an image does, and the least number of instructions with that end
+-- what `run --count` answers: what an image of the text in the mode does, and the least number of instructions with that end
 abbrev pub IsExecutedCounted : Mode → (steps : ℕ) → (words text : List ℕ) → Answer → Type 0
 IsExecutedCounted m steps words text (ExecutedCounted done) = (image : Image) × Agree text image × AgreeIn m text image × IsCounted image true steps words done
 IsExecutedCounted m steps words text answer = ⊥
 
--- what `asm` answers: the listing of such an image
+-- what `asm` answers: the listing of an image of the text in the mode
 abbrev pub IsListed : Mode → (text : List ℕ) → Answer → Type 0
 IsListed m text (Listed lines) = (image : Image) × Agree text image × AgreeIn m text image × (lines.items ≡ listing image)
 IsListed m text answer = ⊥
 
--- a text is an image as Intel HEX: it has the image's bytes at their addresses and nothing else, in the order of the addresses,
--- laid out as `image_text` is
+-- the text is the image as Intel HEX: the image's bytes at their addresses and nothing else, in the order of the addresses,
+-- laid out as in `image_text`
 pub record IsHex (text : List ℕ) (image : Image) : Type 0 where
   pub holds : Holds text image
   pub says : Says text image
   pub laid_out : text ≡ image_text image
 
--- what `image` answers: such an image, as Intel HEX
+-- what `image` answers: an image of the text in the mode, as Intel HEX
 abbrev pub IsImage : Mode → (text : List ℕ) → Answer → Type 0
 IsImage m text (InHex lines) = (image : Image) × Agree text image × AgreeIn m text image × IsHex lines.items image
 IsImage m text answer = ⊥
 
--- what `size` answers: what such an image takes
+-- what `size` answers: how much memory an image of the text in the mode takes
 abbrev pub IsMeasured : Mode → (text : List ℕ) → Answer → Type 0
 IsMeasured m text (Measured it) = Measures m text it
 IsMeasured m text answer = ⊥
 
--- what `safe` answers: if nothing may go wrong, it says that the program goes wrong for no cause, on no input and at no bound
+-- what `safe` answers: what may go wrong; if that is nothing, the program never goes wrong, whatever the input and the bound
 abbrev pub IsJudged : (text : List ℕ) → Answer → Type 0
 IsJudged text (Judged lines) = (p : ProgramOf text) × (lines.items ≡ [] → IsSafe p.program)
 IsJudged text answer = ⊥
@@ -103,7 +103,7 @@ Answers (ImageTask kind) text answer = IsImage (mode_of kind) text answer
 Answers (Size kind) text answer = IsMeasured (mode_of kind) text answer
 Answers Safe text answer = IsJudged text answer
 
--- why a text gets no answer from a task that makes no image: it is no program's, or memory was refused
+-- why a text gets no answer from a task that makes no image: the text is not a program, or memory was refused
 abbrev pub HasNoProgram : (text : List ℕ) → Fault → Type 0
 HasNoProgram text (Text f) = IsTextRefusal text f
 HasNoProgram text (Meaning f) = Unit {0}
@@ -114,8 +114,7 @@ HasNoProgram text OutOfMemory = Unit {0}
 HasNoProgram text Read = ⊥
 HasNoProgram text Write = ⊥
 
--- why a text gets no answer from a task that makes an image: it is no program's, it has no image in the mode, or memory was
--- refused
+-- why a text gets no answer from a task that makes an image: the text is not a program, it has no image in the mode, or memory was refused
 abbrev pub HasNoImage : Mode → (text : List ℕ) → Fault → Type 0
 HasNoImage m text (Text f) = IsTextRefusal text f
 HasNoImage m text (Meaning f) = ⊥

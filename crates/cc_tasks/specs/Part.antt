@@ -25,33 +25,33 @@ abbrev pub IsPart : Part → StoredUnit → (bytes : List ℕ) → Type 0
 IsPart Image unit bytes = IsHex bytes unit.image
 IsPart Source unit bytes = bytes ≡ unit.source
 
--- these bytes are a name, and this unit has it in the map
+-- the bytes are a name, and the map has this unit under that name
 pub record IsFound (units : Units) (name : List ℕ) (unit : StoredUnit) : Type 0 where
   pub is_name : IsTrue (is_name name)
   pub found : map.get units name ≡ Some unit
 
--- these bytes are a name, and no unit has it in the map
+-- the bytes are a name, and the map has no unit under that name
 pub record IsAbsent (units : Units) (name : List ℕ) : Type 0 where
   pub is_name : IsTrue (is_name name)
   pub absent : map.get units name ≡ None
 
--- the bytes are this part of the unit that has the name in the map
+-- the bytes are this part of the unit under the name in the map
 abbrev pub IsPartIn : Units → (name : List ℕ) → Part → (bytes : List ℕ) → Type 0
 IsPartIn units name part bytes = (unit : StoredUnit) × IsFound units name unit × IsPart part unit bytes
 
--- why there is no such part: 33 exactly if the bytes are no name, 32 exactly if they are a name that no unit has; otherwise
--- memory ran out
+-- why no part is taken out: 33 exactly if the bytes are not a name, 32 exactly if they are a name that no unit has;
+-- otherwise memory ran out
 abbrev pub IsNoPartIn : Units → (name : List ℕ) → PartFault → Type 0
 IsNoPartIn units name BadName = is_name name ≡ false
 IsNoPartIn units name Absent = IsAbsent units name
 IsNoPartIn units name (Library f) = ⊥
 IsNoPartIn units name OutOfMemory = (unit : StoredUnit) × IsFound units name unit
 
--- the disk's bytes recover to a map, in which the unit of that name has this part
+-- the disk's bytes recover to a map in which the unit under the name has this part
 abbrev pub IsPartOn : (seen name : List ℕ) → Part → (bytes : List ℕ) → Type 0
 IsPartOn seen name part bytes = (units : Units) × Recovers seen units × IsPartIn units name part bytes
 
--- why there is no such part on a disk: the library is not opened, or the map to which the disk recovers has no such part
+-- why no part is taken out of a disk: as `OpenFaults` says, or as `IsNoPartIn` says of the map to which the disk recovers
 abbrev pub IsNoPartOn : (honest : Bool) (seen : List ℕ) (before after : ℕ) (name : List ℕ) → PartFault → Type 0
 IsNoPartOn honest seen before after name (Library f) = OpenFaults honest seen before after f
 IsNoPartOn honest seen before after name BadName = is_name name ≡ false

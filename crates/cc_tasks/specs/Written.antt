@@ -1,4 +1,4 @@
--- What the program writes for a text, byte for byte, and what it has done by then.
+-- What the program writes for a text, byte for byte, and the status with which it ends.
 use Rattle.std.specs.Prelude.{◌≡◌, ◌⊎◌, ℕ, Bool, true, false, List, [], ◌∷◌, ◌++◌, Option, Result, Ok, Err, Vec, codes}
 use Rattle.std.specs.declared.alloc.Global.{Global}
 use Rattle.std.specs.Fmt.{decimal}
@@ -36,7 +36,7 @@ stop_text (Wrong c) = line (codes "wrong " ++ cause_name c)
 abbrev pub outcome_text : Outcome → List ℕ
 outcome_text o = words_text o.output ++ stop_text o.stop
 
--- the words that a program writes, how it stops, and the line with its steps
+-- the line for a number of steps
 abbrev pub steps_text : ℕ → List ℕ
 steps_text steps = line (codes "steps " ++ decimal steps)
 
@@ -83,8 +83,8 @@ found_text (Err fault) = fault_line (part_fault_number fault) []
 
 -- ---- from what is read to what is written
 
--- this text was appended to what was written before, and nothing else; or it could not be written, 54, and nothing is known about
--- what was written
+-- this text and nothing else was appended to what was written before; or the text could not be written (54), and nothing is known
+-- about what was written
 abbrev pub Writes : {T : Type 0} → (old new : Option (List ℕ)) (text : List ℕ) → Result T Fault → Type 0
 Writes old new text (Ok done) = Appends old new text
 Writes old new text (Err fault) = fault ≡ Write
@@ -104,12 +104,12 @@ pub record IsTurnedDown (task : Task) (input old new : Option (List ℕ)) (fault
   pub refused : IsRefused task text fault
   pub written : Appends old new (fault_text text fault)
 
--- the text could not be read, 53, and its line was written; or the text has this fault
+-- the text could not be read, and the line of 53 was written; or the text has this fault, and the fault's line was written
 abbrev pub IsToldFault : Task → (input old new : Option (List ℕ)) → Fault → Type 0
 IsToldFault task input old new fault = ((fault ≡ Read) × Appends old new (fault_text [] Read)) ⊎ IsTurnedDown task input old new fault
 
--- A task was done with this status, and all that was to be written is written: the status is that of its answer, and 1 for a
--- fault. Or something could not be written, 54: the status is 1, and nothing is known about what was written.
+-- A task was done with this status. If all that was to be written is written, the status is that of the answer, or 1 for a fault.
+-- If something could not be written (54), the status is 1, and nothing is known about what was written.
 abbrev pub IsPerformed : Task → (input old new : Option (List ℕ)) → (status : ℕ) (written : Bool) → Type 0
 IsPerformed task input old new status true =
     ((it : IsAnswered task input old new) × (status ≡ answer_status it.answer)) ⊎ ((status ≡ 1) × ((fault : Fault) × IsToldFault task input old new fault))

@@ -54,7 +54,7 @@ fn accepted(alloc: Global, text: &[u8]) -> Result<Answer, Fault>
     Ok(Answer::Accepted)
 }
 
-// What the program does on the input words. 40 if memory was refused as it ran.
+// What the program does on the input words. Fails with 40 if memory was refused during the run.
 fn ran(alloc: Global, text: &[u8], words: &[u32], steps: u64) -> Result<Answer, Fault>
     ensures answer { IfOk result (λ answer. IsRan steps words.now text.now answer) }
     ensures refused { IfErr result (λ fault. HasNoProgram text.now fault) }
@@ -78,7 +78,7 @@ pub fn mode_of(kind: Kind) -> Mode
     }
 }
 
-// The program's fault for a fault of compiling.
+// The program's fault for a compilation fault.
 fn fault_of_build(fault: BuildFault) -> Fault
     ensures { (mode : Mode) (text : List ℕ) → IsBuildRefusalIn mode text fault → HasNoImage mode text result }
 {
@@ -101,7 +101,7 @@ pub(crate) fn compiled(alloc: Global, mode: Mode, text: &[u8]) -> Result<Compile
     }
 }
 
-// What the program's image does on the input words. 40 if memory was refused as it ran.
+// What the program's image does on the input words. Fails with 40 if memory was refused during the run.
 fn executed(
     alloc: Global,
     mode: Mode,
@@ -180,11 +180,11 @@ fn judged(alloc: Global, text: &[u8]) -> Result<Answer, Fault>
     }
 }
 
-/// The answer to a task for a text: that of `check` and `interpret` comes from its tree, that of `run`, `asm`, `image` and `size`
-/// from its image, which agrees with it and follows what the program shows in its mode.
+/// The answer to a task for a text. For `check`, `interpret` and `safe` it comes from the text's tree; for `run`, `asm`, `image`
+/// and `size`, from an image that agrees with the text and follows what the program shows in the task's mode.
 ///
-/// Refusals: those of `typed_unit`; for `run`, `asm`, `image` and `size` then 22, 24 and 25, as `compile_in` has them; 40 if
-/// memory was refused.
+/// Refusals: those of `typed_unit`; for `run`, `asm`, `image` and `size` then 22, 24 and 25, as for `compile_in`; 40 if memory
+/// was refused.
 pub fn answer_for(alloc: Global, task: &Task, text: &[u8]) -> Result<Answer, Fault>
     ensures answer { IfOk result (λ answer. Answers task.now text.now answer) }
     ensures refused { IfErr result (λ fault. IsRefused task.now text.now fault) }

@@ -9,7 +9,8 @@ use cc_link::{Mode, typed_unit};
 use cc_steps::{interpret_counted, run_counted};
 use std::alloc::Global;
 
-/// What the program does on the input words, and in how many steps. 40 if memory was refused as it ran.
+/// What the program does on the input words, and in how many steps. Fails with 40 if memory was refused during the
+/// run.
 pub(crate) fn ran_counted(
     alloc: Global,
     text: &[u8],
@@ -28,7 +29,8 @@ pub(crate) fn ran_counted(
     }
 }
 
-/// What the program's image does on the input words, and in how many instructions. 40 if memory was refused as it ran.
+/// What the program's image does on the input words, and in how many instructions. Fails with 40 if memory was refused
+/// during the run.
 pub(crate) fn executed_counted(
     alloc: Global,
     mode: Mode,

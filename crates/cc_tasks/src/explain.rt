@@ -11,14 +11,14 @@ use cc_task::{Kind, Task};
 use std::alloc::{AllocError, Global};
 use std::io::{self, Write};
 
-/// What an answer leaves to be explained to a person.
+/// What is to be explained to a person after an answer.
 #[derive(Clone, Copy)]
 pub(crate) enum Matter {
     /// The warnings of the text.
     Text,
     /// Why the program went wrong.
     Wrong(Cause),
-    /// Whether an image that goes on has stopped in place.
+    /// Whether an image whose run goes on has stopped in place.
     Going,
     /// Nothing; the program may go wrong.
     Unsure,
@@ -27,20 +27,20 @@ pub(crate) enum Matter {
 /// The explanation of the answer to a text.
 #[derive(Drop)]
 pub struct Explanation {
-    /// Words that belong to no place of the text.
+    /// Words that belong to no place in the text.
     pub words: Option<&'static str>,
     /// The explanation of the fault, or of what went wrong in a run.
     pub first: Option<Diagnostic>,
     /// The calls that were open as a run went wrong, the innermost first.
     pub calls: Vec<Diagnostic>,
-    /// What would be reported if the fault were mended, up to twenty in all.
+    /// Errors that would be reported if the fault were mended; with the fault, at most twenty.
     pub further: Vec<Diagnostic>,
     /// The warnings of a program.
     pub warnings: Vec<Diagnostic>,
 }
 
 impl Explanation {
-    // Only these words.
+    // An explanation that consists only of these words.
     fn words(alloc: Global, words: Option<&'static str>) -> Explanation {
         Explanation {
             words,
@@ -51,7 +51,7 @@ impl Explanation {
         }
     }
 
-    // The explanation of one place.
+    // An explanation that consists only of this diagnostic.
     fn first(alloc: Global, told: Result<Option<Diagnostic>, AllocError>) -> Explanation {
         let mut explanation = Explanation::words(alloc, None);
         if let Ok(first) = told {
@@ -72,7 +72,7 @@ impl Explanation {
     }
 }
 
-// The explanations of the further errors, if a fault is one of scope or type.
+// The explanations of the further errors, if the fault is one of scope or type.
 fn further_of(alloc: Global, text: &[u8], fault: &Fault) -> Vec<Diagnostic> {
     let Fault::Text(TextFault::Typing(first)) = fault else {
         return Vec::new(alloc);
@@ -83,8 +83,8 @@ fn further_of(alloc: Global, text: &[u8], fault: &Fault) -> Vec<Diagnostic> {
     }
 }
 
-/// The explanation of a fault of a text: its place, what was found there and what was expected. After a fault of scope or type come the further
-/// ones, up to twenty in all. Nothing if memory for that runs out.
+/// The explanation of a fault of a text: its place, what was found there and what was expected. After a fault of scope or type
+/// come the further errors; with the first, at most twenty. Diagnostics for which memory runs out are left out.
 pub fn explanation_of_fault(alloc: Global, text: &[u8], fault: &Fault) -> Explanation {
     let words = words_of_task(fault.number());
     if words.is_some() {
@@ -95,7 +95,7 @@ pub fn explanation_of_fault(alloc: Global, text: &[u8], fault: &Fault) -> Explan
     explanation
 }
 
-/// The warnings of a text that is a program. Nothing if memory for that runs out.
+/// The warnings of a text that is a program. Empty if memory runs out.
 pub fn explanation_of_program(alloc: Global, text: &[u8]) -> Explanation {
     let mut explanation = Explanation::words(alloc, None);
     if let Ok(list) = warnings(alloc, text) {
@@ -104,8 +104,9 @@ pub fn explanation_of_program(alloc: Global, text: &[u8]) -> Explanation {
     explanation
 }
 
-/// The explanation of a run of a text that goes wrong for a cause, if a task gave that answer: the place, the function, the
-/// values, and which calls are open. The run is repeated for that. Nothing if memory for it runs out.
+/// Explains why the program of a text goes wrong for this cause, if the task is to interpret it: the place, the function, the
+/// values, and which calls are open. The run is repeated to find them. The explanation is empty for other tasks, and if memory
+/// runs out.
 pub fn explanation_of_wrong(alloc: Global, task: &Task, text: &[u8], cause: Cause) -> Explanation {
     match task {
         Task::Interpret(steps, words) | Task::InterpretCounted(steps, words) => {
@@ -125,7 +126,7 @@ pub fn explanation_of_wrong(alloc: Global, task: &Task, text: &[u8], cause: Caus
 /// At most this many steps of the program are interpreted to find where its image has stopped.
 const MOST_EXPLAINED: u64 = 100_000_000;
 
-// Why a program goes wrong on the input words within the steps. Nothing if it does not, or if it has too many open calls: no
+// Why a program goes wrong on the input words within the steps. `None` if it does not, or if the cause is too many open calls: no
 // image stops for that.
 fn stopping_cause(alloc: Global, text: &[u8], words: &[u32], steps: u64) -> Option<Cause> {
     let Ok(unit) = typed_unit(alloc, text) else {
@@ -140,9 +141,9 @@ fn stopping_cause(alloc: Global, text: &[u8], words: &[u32], steps: u64) -> Opti
     }
 }
 
-/// The explanation of a run of an image that goes on. For a checked image it is the place at which it has stopped, if the program
-/// goes wrong within the same number of steps, 100,000,000 at most; otherwise it is the warnings of the text. The program is
-/// interpreted for that.
+/// The explanation for an image's run that ends as `going`. If the image is checked, and the program goes wrong within the same
+/// number of steps (at most 100,000,000), it is the place at which the image has stopped; otherwise it is the warnings of the
+/// text. The program is interpreted to find that out.
 pub fn explanation_of_going(alloc: Global, task: &Task, text: &[u8]) -> Explanation {
     let (steps, words) = match task {
         Task::Run(Kind::Checked, steps, words) | Task::RunCounted(Kind::Checked, steps, words) => {
@@ -159,7 +160,7 @@ pub fn explanation_of_going(alloc: Global, task: &Task, text: &[u8]) -> Explanat
     explanation
 }
 
-/// The explanation of what an answer to a task for a text leaves to be explained.
+/// The explanation of what is to be explained after an answer to a task for a text.
 pub(crate) fn explanation_of_matter(
     alloc: Global,
     task: &Task,

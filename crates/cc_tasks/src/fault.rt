@@ -17,7 +17,7 @@ use thiserror::Error;
 /// Why a task was not done.
 #[derive(Debug, Drop, Error)]
 pub enum Fault {
-    /// 1 to 7, 11 to 21, 40: the text is no program's.
+    /// 1 to 7, 11 to 21, 40: the text is not a program.
     #[error(transparent)]
     Text(TextFault),
     /// 40: memory was refused as the program ran.
@@ -29,7 +29,7 @@ pub enum Fault {
     /// 25, 40: the pieces make no image.
     #[error(transparent)]
     Link(LinkFault),
-    /// 59: the program defines no function with the name that is asked for.
+    /// 59: the program defines no function with the requested name.
     #[error("UnknownFunction")]
     UnknownFunction,
     /// 40: memory was refused as the text was read, or as an image ran.
@@ -54,7 +54,8 @@ impl From<AllocError> for Fault {
 }
 
 impl Fault {
-    /// The number of the fault: 1 to 7, 11 to 22, 24, 25, 40, 53, 54 or 59.
+    /// The number of the fault: 1 to 7, 11 to 22, 24, 25, 40, 53, 54 or 59; or 26 to 28 of a `LinkFault`,
+    /// which no task has.
     pub fn number(&self) -> u32
         ensures { result ≡ fault_number self.now }
     {
@@ -86,7 +87,7 @@ impl Fault {
         }
     }
 
-    /// The fault's place in the text, for what is written about it there.
+    /// The fault's position in the text, as `write_fault_line` and `of_fault` of `cc_answers` need it.
     pub(crate) fn stands(&self) -> Stands<'_>
         ensures { (text : List ℕ) → position_text text result ≡ where_text text self.now }
     {

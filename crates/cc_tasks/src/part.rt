@@ -23,7 +23,7 @@ use thiserror::Error;
 /// Why there is no part of a unit.
 #[derive(Clone, Copy, Debug, Drop, Error)]
 pub enum PartFault {
-    /// 33: what should be a name is not one.
+    /// 33: the bytes are not a name.
     #[error("BadName")]
     BadName,
     /// 32: no unit has the name.
@@ -51,7 +51,7 @@ impl PartFault {
     }
 }
 
-/// A part of a unit: its image as Intel HEX, or its source's bytes.
+/// A part of a unit: its image as Intel HEX, or the bytes of its source.
 pub fn part_of(alloc: Global, unit: &StoredUnit, part: Part) -> Result<Vec<u8>, AllocError>
     ensures { IfOk result (λ bytes. IsPart part unit.now bytes.items) }
 {
@@ -61,9 +61,9 @@ pub fn part_of(alloc: Global, unit: &StoredUnit, part: Part) -> Result<Vec<u8>, 
     }
 }
 
-/// A part of the unit that has this name in a map: its image as Intel HEX, or its source's bytes.
+/// A part of the unit under this name in a map: its image as Intel HEX, or the bytes of its source.
 ///
-/// Refusals, in this order: 33 if the bytes are no name, 32 if no unit has it, 40 if memory ran out.
+/// Refusals, in this order: 33 if the bytes are not a name, 32 if no unit has that name, 40 if memory ran out.
 pub fn part_in(
     alloc: Global,
     units: &UnitMap,
@@ -85,7 +85,7 @@ pub fn part_in(
     }
 }
 
-/// Writes which names of the map are near. It writes nothing if memory for that runs out.
+/// Writes that no unit has the name, and which name in the map is near it. Writes nothing if memory runs out.
 pub fn explain_absent<W: Write>(
     alloc: Global,
     units: &UnitMap,
@@ -110,9 +110,9 @@ fn slices_of(alloc: Global, names: &[Name]) -> Result<Vec<&[u8]>, AllocError> {
     Ok(slices)
 }
 
-/// A part of the unit that the library on a disk keeps under this name, as `part_in` has it; the disk is handed back. Nothing is
-/// written to the disk. If no unit has the name, a near one is written to `explanations`; if that can't be written, it is left
-/// out.
+/// A part, as `part_in` returns it, of the unit that the library on a disk keeps under this name; the disk is handed back.
+/// Nothing is written to the disk. If no unit has the name, a name near it is written to `explanations`; if this write fails,
+/// the fault is still `Absent`.
 ///
 /// Refusals: first those of `Library::open`, 35, 38, 37 and 40; then those of `part_in`.
 pub fn take_out<D: Disk + Drop, E: Write>(
@@ -151,7 +151,8 @@ fn write_found<W: Write>(found: &Result<Vec<u8>, PartFault>, writer: &mut W) -> 
     }
 }
 
-/// Writes what was taken out, or the line that says why there is nothing, and flushes the writer. 54 if it could not be written.
+/// Writes what was taken out, or the line that says why there is nothing, and flushes the writer. 54 if a write or the flush
+/// fails.
 #[tactic(auto, using(crate::proofs::Working::written))]
 pub fn write_part<W: Write>(found: &Result<Vec<u8>, PartFault>, writer: &mut W) -> Result<(), Fault>
     ensures { Writes (W.contents writer.old) (W.contents writer.new) (found_text found.now) result }

@@ -1,4 +1,4 @@
-// Shows what the compiler makes of a text's functions, over any reader and writer.
+// Shows a text's functions at each stage of the compiler, over any reader and writer.
 
 ghost use Rattle.std.specs.Prelude.{◌≡◌, ◌≤◌, IsErrOf, IfErr, MatchOption};
 ghost use Rattle.cc_tasks.specs.internal.Shown.{IsUnknown, IsTextRefused};
@@ -31,8 +31,8 @@ fn fault_of(fault: StagesFault) -> Fault
     }
 }
 
-// Writes the stages of the functions of a text, or of the one function with that name. If a fault comes later, what was written
-// stays written.
+// Writes the stages of the functions of a text, or of the one function with the given name. What was written before a fault stays
+// written.
 fn show<W: Write>(
     alloc: Global,
     kind: Kind,
@@ -53,7 +53,7 @@ fn show<W: Write>(
     }
 }
 
-// Writes the stages. If there is a fault, its line comes after what was written of them.
+// Writes the stages. If there is a fault, its line follows the stages that were written before it.
 fn tell<W: Write>(
     alloc: Global,
     kind: Kind,
@@ -71,7 +71,7 @@ fn tell<W: Write>(
     }
 }
 
-/// Shows what the compiler makes of the functions of a reader's text.
+/// Shows the functions of a reader's text at each stage of the compiler.
 pub(crate) fn try_stages<R: Read, W: Write>(
     alloc: Global,
     kind: Kind,
@@ -103,7 +103,7 @@ fn names_of(alloc: Global, unit: &TypedUnit) -> Result<Vec<&[u8]>, AllocError> {
     Ok(names)
 }
 
-// Writes that a text defines no function of this name, and which one is near. It writes nothing if memory for that runs out.
+// Writes that a text defines no function with this name, and which name is near it. Writes nothing if memory runs out.
 fn explain_name<W: Write>(
     alloc: Global,
     text: &[u8],
@@ -141,12 +141,12 @@ pub(crate) fn explain_stages<W: Write>(
     let _ = writer.flush();
 }
 
-/// Shows what the compiler makes of the functions of the text that `reader` has, or of the one with that name: writes the stages
-/// to `writer`, and the fault's line after them if there is a fault.
+/// Shows the functions of the text that `reader` has, or the one with the given name, at each stage of the compiler: writes the
+/// stages to `writer`, and after them the fault's line if there is a fault.
 ///
-/// The status is 0 if all is shown, and 1 for a fault. Faults are those of `asm`, and 59 if the text is a program that defines no
-/// function with that name; a function that is refused (22, 24) has the stages up to the one that says so. If a write fails (54),
-/// no line is written for that.
+/// The status is 0 if all is shown, and 1 for a fault. The faults are those of `asm`, and 59 if the text is a program that
+/// defines no function with that name. If a function is refused (22, 24), its stages are shown up to the one that refuses it. If
+/// a write fails (54), no line is written for the fault.
 pub fn perform_stages<H: AllocGlobal, R: Read, W: Write>(
     rt: &H,
     kind: Kind,
@@ -161,7 +161,7 @@ pub fn perform_stages<H: AllocGlobal, R: Read, W: Write>(
 }
 
 /// Shows the functions as `perform_stages` does, and writes to `explanations` what helps a person with a fault, as
-/// `perform_and_explain` does; for a name that no function has, which one is near.
+/// `perform_and_explain` does; if no function has the name, it writes which name is near it.
 pub fn perform_and_explain_stages<H: AllocGlobal, R: Read, W: Write, E: Write>(
     rt: &H,
     kind: Kind,

@@ -1,4 +1,4 @@
-// Does a task for texts that are given one after the other.
+// Does a task for several texts that are joined to one.
 
 ghost use Rattle.std.specs.Prelude.{◌≡◌, ◌≤◌, Bool, [], Some, IfOk, IfSome, IsErrAnd};
 ghost use Rattle.cc_sources.specs.Joined.{joined};
@@ -15,7 +15,7 @@ use std::alloc::{AllocError, Global};
 use std::io::{self, Input, Write};
 use std::rt::Files;
 
-// Writes that a text could not be read, and explains which and why.
+// Writes that a text could not be read, and explains which one and why.
 fn refuse_unread<W: Write, E: Write>(
     name: &str,
     why: &io::Error,
@@ -27,8 +27,8 @@ fn refuse_unread<W: Write, E: Write>(
     tell_unread(name, why, told)
 }
 
-/// The texts of the files of these names; none if one could not be read: then 53 is written, and which file it was and why is
-/// explained. The error is lack of memory.
+/// The texts of the files with these names. `None` if a file could not be read: then 53 is written, and the explanation says
+/// which file it was and why. `Err` if memory runs out.
 pub fn read_or_refuse<R: AllocGlobal + Input, F: Files, W: Write, E: Write>(
     rt: &R,
     files: &F,
@@ -36,7 +36,7 @@ pub fn read_or_refuse<R: AllocGlobal + Input, F: Files, W: Write, E: Write>(
     writer: &mut W,
     told: &mut E,
 ) -> Result<Option<Vec<NamedText>>, AllocError>
-    // If there are texts, nothing is written.
+    // If the texts could be read, nothing is written.
     ensures { IfOk result (λ texts. IfSome texts (λ _. W.contents writer.new ≡ W.contents writer.old)) }
 {
     match read_texts(rt, files, rt.alloc(), names) {
@@ -55,7 +55,7 @@ pub fn read_or_refuse<R: AllocGlobal + Input, F: Files, W: Write, E: Write>(
     }
 }
 
-// Writes that memory ran out for the text that the texts make.
+// Writes that memory ran out as the texts were joined.
 fn unjoined<W: Write>(alloc: Global, writer: &mut W) -> Performed
     ensures { IsErrAnd result.told (λ told. RefusesBy OutOfMemory [] (W.contents writer.old) (W.contents writer.new) told) }
 {
@@ -65,7 +65,7 @@ fn unjoined<W: Write>(alloc: Global, writer: &mut W) -> Performed
     }
 }
 
-// Does a task for the text that the texts make.
+// Does a task for the text to which the texts are joined.
 #[tactic(auto, using(crate::proofs::Working::undone))]
 fn try_texts<W: Write>(alloc: Global, task: &Task, texts: &[NamedText], writer: &mut W) -> Performed
     ensures { IsDoneFor task.now (Some (joined texts.now)) (W.contents writer.old) (W.contents writer.new) result.told }
@@ -76,8 +76,8 @@ fn try_texts<W: Write>(alloc: Global, task: &Task, texts: &[NamedText], writer: 
     }
 }
 
-/// Does a task as `carry_out` does, for the text that the texts make: one after the other, with a newline between two if the
-/// first lacks it.
+/// Does a task as `carry_out` does, for the text to which `texts` are joined: one after the other, with a newline between two if
+/// the first does not end with one.
 pub fn carry_out_texts<H: AllocGlobal, W: Write>(
     rt: &H,
     task: Task,
@@ -103,8 +103,8 @@ pub fn perform_texts<H: AllocGlobal, W: Write>(
     done.status
 }
 
-/// Does a task as `carry_out_texts` does, and writes to `explanations` what `perform_and_explain` does, with the name of the text
-/// that a place lies in, and the line and column there.
+/// Does a task as `carry_out_texts` does, and writes to `explanations` what `perform_and_explain` writes there, but gives each
+/// place as the name of its text with the line and column in that text.
 pub fn perform_texts_and_explain<H: AllocGlobal, W: Write, E: Write>(
     rt: &H,
     task: Task,
@@ -120,7 +120,7 @@ pub fn perform_texts_and_explain<H: AllocGlobal, W: Write, E: Write>(
     ended(performed)
 }
 
-// Shows the functions of the text that the texts make.
+// Shows the functions of the text to which the texts are joined.
 fn try_stages_of_texts<W: Write>(
     alloc: Global,
     kind: Kind,
@@ -134,7 +134,7 @@ fn try_stages_of_texts<W: Write>(
     }
 }
 
-/// Shows functions as `perform_stages` does, for the text that the texts make.
+/// Shows functions as `perform_stages` does, for the text to which `texts` are joined.
 pub fn perform_stages_of_texts<H: AllocGlobal, W: Write>(
     rt: &H,
     kind: Kind,

@@ -6,7 +6,7 @@ use std::io::{self, Write};
 /// How many names are written if none is near.
 const MOST_NAMES: usize = 8;
 
-// Writes a word; what would steer a terminal is shown as `?`.
+// Writes a word; a byte that could control a terminal is shown as `?`.
 fn write_shown<W: Write>(word: &[u8], writer: &mut W) -> io::Result<()> {
     for byte in word {
         let shown = if byte.is_ascii_graphic() { *byte } else { b'?' };
@@ -28,8 +28,8 @@ fn write_names<W: Write>(names: &[&[u8]], writer: &mut W) -> io::Result<()> {
     Ok(())
 }
 
-/// Writes that nothing of this kind, for example no function, has the name, and which of the existing names is near; if no name
-/// is near, the first few of them.
+/// Writes that nothing of this kind, for example no function, has the name, and which existing name is near it; if none is
+/// near, writes the first few existing names.
 pub fn explain_unknown<W: Write>(
     kind: &str,
     name: &[u8],

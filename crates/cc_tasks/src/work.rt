@@ -87,7 +87,7 @@ pub(crate) fn flushed<W: Write>(write: io::Result<()>, writer: &mut W) -> Result
     }
 }
 
-// What a run of the interpreter leaves to be explained.
+// What is to be explained after a run of the interpreter.
 fn matter_of_outcome(outcome: &Outcome) -> Matter
     ensures { matter_status result ≡ 0 }
 {
@@ -97,7 +97,7 @@ fn matter_of_outcome(outcome: &Outcome) -> Matter
     }
 }
 
-// What a run of an image leaves to be explained.
+// What is to be explained after a run of an image.
 fn matter_of_run(run: &ImageRun) -> Matter
     ensures { matter_status result ≡ 0 }
 {
@@ -107,7 +107,7 @@ fn matter_of_run(run: &ImageRun) -> Matter
     }
 }
 
-// What an answer leaves to be explained.
+// What is to be explained after an answer.
 fn matter_of(answer: &Answer) -> Matter
     ensures { matter_status result ≡ answer_status answer.now }
 {
@@ -141,7 +141,7 @@ pub(crate) fn refused<W: Write>(fault: Fault, text: &[u8], writer: &mut W) -> Fa
     }
 }
 
-// Writes an answer. The result is what it leaves to be explained.
+// Writes an answer. The result is what is to be explained.
 #[tactic(auto, using(crate::proofs::Working::written))]
 fn tell_answer<W: Write>(answer: &Answer, writer: &mut W) -> Result<Matter, Fault>
     ensures written { Writes (W.contents writer.old) (W.contents writer.new) (answer_text answer.now) result }
@@ -154,7 +154,7 @@ fn tell_answer<W: Write>(answer: &Answer, writer: &mut W) -> Result<Matter, Faul
     }
 }
 
-// Does a task for a text: writes the answer, or the fault's line. The result is what is left to be explained.
+// Does a task for a text: writes the answer, or the fault's line. The result is what is to be explained.
 #[tactic(auto, using(crate::proofs::Working::told_answer, crate::proofs::Working::told_fault))]
 fn tell<W: Write>(alloc: Global, task: &Task, text: &[u8], writer: &mut W) -> Result<Matter, Fault>
     ensures { TellsOf task.now text.now (W.contents writer.old) (W.contents writer.new) result }
@@ -165,7 +165,7 @@ fn tell<W: Write>(alloc: Global, task: &Task, text: &[u8], writer: &mut W) -> Re
     }
 }
 
-/// The part of a text that was read, and how a task ended for it: the fault, or what is left to be explained.
+/// The part of a text that was read, and how a task ended for it: the fault, or what is to be explained.
 #[derive(Drop)]
 pub(crate) struct Performed {
     pub(crate) text: Vec<u8>,
@@ -237,7 +237,7 @@ pub fn explanation_of_answer(
     explanation_of_matter(alloc, task, text, matter_of(answer))
 }
 
-// The status of an answer that leaves this to be explained.
+// The status of an answer after which this is to be explained.
 fn status_of_matter(matter: Matter) -> u8
     ensures answer { result ≡ matter_status matter }
     ensures bound { result ≤ 1 }
@@ -270,7 +270,7 @@ pub(crate) fn status(performed: Performed) -> u8
 /// How a task ended.
 #[derive(Clone, Copy, Debug, Drop, PartialEq, Eq)]
 pub struct Done {
-    /// The status: that of the answer, and 1 for a fault.
+    /// The status of the answer, or 1 for a fault.
     pub status: u8,
     /// Whether all that was to be written is written. If not, the fault is 54, and the status is 1.
     pub is_written: bool,
@@ -292,7 +292,7 @@ fn is_told(fault: &Fault) -> bool
     }
 }
 
-/// How a task that was done ended.
+/// How a performed task ended.
 pub(crate) fn ended(performed: Performed) -> Done
     ensures status { result.status ≡ status_of performed.told }
     ensures written { result.is_written ≡ written_of performed.told }
@@ -311,8 +311,8 @@ pub(crate) fn ended(performed: Performed) -> Done
 
 /// Does a task: reads the text from `reader`, and writes the answer or the fault's line to `writer`.
 ///
-/// The status is 0 for an answer, but 1 for an answer of `safe` that the program may go wrong, and 1 for a fault. A read that
-/// fails is fault 53; a write that fails is fault 54, for which no line is written.
+/// The status is 1 for a fault, and for the answer of `safe` that the program may go wrong; it is 0 for other answers. A read
+/// that fails is fault 53; a write that fails is fault 54, for which no line is written.
 pub fn carry_out<H: AllocGlobal, R: Read, W: Write>(
     rt: &H,
     task: Task,
@@ -341,8 +341,9 @@ pub fn perform<H: AllocGlobal, R: Read, W: Write>(
 
 /// Does a task as `carry_out` does, and writes to `explanations` what helps a person with a fault or with a run that went wrong:
 /// the place, as editors read it, what was found there and what was expected, and the line of the text. It does the same for a
-/// checked image that has stopped in place; for another program it writes the warnings. If a write to `writer` fails, it says so.
-/// If memory for an explanation runs out, or it cannot be written, there is none; the status is the same.
+/// checked image that has stopped in place; for another program it writes the warnings. If a write to `writer` fails,
+/// `explanations` says so. If memory for an explanation runs out, or the explanation cannot be written, it is left out; the
+/// status is the same.
 pub fn perform_and_explain<H: AllocGlobal, R: Read, W: Write, E: Write>(
     rt: &H,
     task: Task,

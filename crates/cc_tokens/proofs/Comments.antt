@@ -10,7 +10,7 @@ use Rattle.cc_tokens.specs.Tokens.{begins_close, begins_line_end, begins_splice,
 use Rattle.cc_tokens.specs.internal.Scan.{offset_within, comment_of, comment_head, block_comment, spliced}
 use Rattle.cc_tokens.proofs.Runs.{place_is, place_none_before}
 
--- bytes that begin with `*/`
+-- if the bytes begin with `*/`, they are `*/` and the rest
 pub close_shape : (xs : List ℕ) → begins_close xs ≡ true → xs ≡ 42 ∷ 47 ∷ drop 2 xs
 close_shape [] here = absurd (false≢true here)
 close_shape (a ∷ []) here = absurd (false≢true ((and_parts (a == 42) _ here).1))
@@ -58,13 +58,13 @@ pub comment_is_found : (c after bytes : List ℕ) → IsComment c after → byte
 comment_is_found _ after bytes (block body none) whole = block_is_found body after none bytes whole
 comment_is_found _ after bytes (line body none ends) whole = line_is_found body after none ends bytes whole
 
--- an unclosed comment: no `*/` follows
+-- if no `*/` follows, the scanner finds that the comment is unclosed
 pub unclosed_is_found : (body : List ℕ) → Nowhere begins_close body [] → comment_head (47 ∷ 42 ∷ body) ≡ head.Error UnclosedComment 0
 unclosed_is_found body none =
     let place : offset_within begins_close (length body) body ≡ length body = ap (offset_within begins_close (length body)) (sym (append-nil body)) ∙ place_none_before begins_close body [] none in
     ap (λ n. block_comment n (47 ∷ 42 ∷ body)) place ∙ cond-false _ _ _ (le-ltb (length body) (length body) (omega arith))
 
--- a comment without a line splice, and one with a line splice
+-- the scanner finds a comment without a line splice, and the first line splice in any other comment
 pub plain_is_found : (c after : List ℕ) → Nowhere begins_splice c after → comment_of (length c) (c ++ after) ≡ head.Comment (length c)
 plain_is_found c after none =
     ap (spliced (length c)) (place_none_before begins_splice c after none) ∙ cond-false _ _ _ (le-ltb (length c) (length c) (omega arith))

@@ -1,5 +1,5 @@
--- If the bytes begin with a piece or an error, the scanner returns that. So they cannot begin with two, and a text has at most
--- one list of tokens, or one first error, and not both.
+-- If the bytes begin with a piece or an error, the scanner returns that piece or error. So the bytes cannot begin with two
+-- different ones, and a text has at most one list of tokens, or one first error, and not both.
 use Rattle.std.proofs.Common.{◌≡◌, ◌≢◌, ℕ, suc, true, false, List, [], ◌∷◌, ◌++◌, length, get_or, take, drop, refl, sym, ap, ◌∙◌, arith, subst, ⊎_elim, Option, Some, None}
 use Rattle.std.specs.Char.{is_ascii_digit}
 use Rattle.std.proofs.lemmas.Bool.{false≢true, and_left, ne_eqb, cases_Bool}

@@ -1,5 +1,5 @@
--- The constant that the scanner finds in a number is the one that the number spells, and it finds none if the number spells none.
--- One direction goes through the three bases, the other through the three prefixes and the two suffixes.
+-- The constant that the scanner finds in a number is the one that the number spells, and the scanner finds none if the number
+-- spells none. One direction goes through the three bases, the other through the three prefixes and the two suffixes.
 use Rattle.std.proofs.Common.{◌≡◌, ℕ, suc, zero, ◌+◌, ◌≤◌, ◌⊎◌, Bool, true, false, not, ◌&&◌, ◌||◌, ◌==◌, List, [], ◌∷◌, ◌++◌, length, get_or, take, drop, refl, sym, ap, ◌∙◌, arith, subst, ⊎_elim, inl, inr, Option, Some, None}
 use Rattle.std.specs.Prelude.{IsTrue}
 use Rattle.std.specs.List.{prefix_len, AllByRecursion}
@@ -12,14 +12,14 @@ use Rattle.std.proofs.lemmas.List.Sums.{prefix_len-le-length}
 use Rattle.cc_tokens.specs.Constant.{Constant, is_digit_of, IsPrefix, decimal, octal, hexadecimal, IsSuffix, none, unsigned, SpellsConstant}
 use Rattle.cc_tokens.specs.internal.Scan.{constant_spelled, constant_behind, base_of, prefix_of_base, suffix_of, with_suffix}
 
--- two equal present values are the same, and a present value is not an absent one
+-- `Some x` equals `Some y` only if x equals y, and `Some x` is not None
 some_same : {A : Type 0} (x y : A) → Some x ≡ Some y → x ≡ y
 some_same x y e = cc
 
 none_some : {A : Type 0} (x : A) → None ≡ Some x → ⊥
 none_some x e = cc
 
--- the digits that are counted are digits
+-- the bytes that are counted as digits are digits
 head_digits : (p : ℕ → Bool) (bs : List ℕ) → AllByRecursion (λ b. IsTrue (p b)) (take (prefix_len p bs) bs)
 head_digits p [] = tt
 head_digits p (b ∷ bs) =
@@ -34,12 +34,12 @@ prefix_len_cut p (d ∷ digits) rest all stops =
     let ih = prefix_len_cut p digits rest all.1 stops in
     cond-true (p d) _ _ all.0 ∙ one-add _ ∙ ap suc ih
 
--- two bytes or more are not a suffix
+-- two or more bytes are not a suffix
 long_suffix : (a b : ℕ) (bs : List ℕ) → suffix_of (a ∷ b ∷ bs) ≡ None
 unfolding suffix_of
 long_suffix a b bs = cond-false _ _ _ (ne_eqb (length (a ∷ b ∷ bs)) 0 (λ e. omega arith)) ∙ cond-false _ _ _ (and_left _ _ (ne_eqb (length (a ∷ b ∷ bs)) 1 (λ e. omega arith)))
 
--- what is accepted as a suffix is one
+-- what is accepted as a suffix is a suffix
 suffix_found : (bs : List ℕ) (s : Bool) → suffix_of bs ≡ Some s → IsSuffix bs s
 unfolding suffix_of
 suffix_found [] true e = absurd (false≢true (some_same _ _ e))
@@ -76,7 +76,7 @@ behind_found base n behind c =
     (and_cases (n == 0) (not (base == 8)) digits))
     e)
 
--- at least one decimal digit, the first of them not 0
+-- if the first decimal digit is not 0, the prefix before the digits is empty
 decimal_digits : (b : ℕ) (bs : List ℕ) (n : ℕ) → (b ≡ 48 → ⊥) → (n ≡ 0 → ◌≡◌ {A = ℕ} 10 8) → IsPrefix [] 10 (take n (b ∷ bs))
 decimal_digits b bs zero apart some = absurd (let e = some refl in omega arith)
 decimal_digits b bs (suc n) apart some = decimal apart
@@ -104,7 +104,7 @@ spelled_behind c text prefix behind base whole parts prefixed =
       ended = parts.ended;
     }
 
--- the constant that the scanner finds for one base
+-- the constant that the scanner finds if the base is this one
 spelled_at : ℕ → List ℕ → Option Constant
 spelled_at base text = constant_behind base (prefix_len (is_digit_of base) (drop (prefix_of_base base) text)) (drop (prefix_of_base base) text)
 
@@ -161,7 +161,7 @@ suffix_is _ _ (unsigned {x} letter) =
     let is_letter : (x == 117 || x == 85) ≡ true = ⊎_elim (λ e. or_left (x == 117) (x == 85) (eq-eqb x 117 e)) (λ e. or_right (x == 117) (x == 85) (eq-eqb x 85 e)) letter in
     cond-true (x == 117 || x == 85) (Some true) None is_letter
 
--- digits and a suffix after a prefix are found
+-- the scanner finds the digits and the suffix after a prefix
 behind_is_found : (base : ℕ) (digits suffix : List ℕ) (s : Bool) → base ≤ 16 → (length digits ≡ 0 → base ≡ 8)
     → AllByRecursion (λ b. IsTrue (is_digit_of base b)) digits → IsSuffix suffix s
     → constant_behind base (prefix_len (is_digit_of base) (digits ++ suffix)) (digits ++ suffix) ≡ Some (record { base = base; digits = digits; suffixed = s })

@@ -10,7 +10,7 @@ use Rattle.cc_tokens.specs.declared.token.TokenKind.{TokenKind}
 use Rattle.cc_tokens.specs.Constant.{is_digit_of, type_of_value}
 use Rattle.cc_tokens.specs.internal.Scan.{typed, constant_kind, constant_spelled, constant_behind, base_of, prefix_of_base, suffix_of, with_suffix}
 
--- one step of the capped sum: times the base, plus a digit
+-- capping the sum before a step (times the base, plus a digit) does not change the capped sum after it
 capped_step : (a base d : ℕ) → 1 ≤ base → min (min a 4294967296 * base + d) 4294967296 ≡ min (a * base + d) 4294967296
 capped_step a base d some = ⊎_elim
     (λ (small : a < 4294967296). let e : min a 4294967296 ≡ a = omega arith in ap (λ v. min (v * base + d) 4294967296) e)
@@ -45,7 +45,7 @@ capped_type base suffixed v = ⊎_elim
     ap (λ w. typed (type_of_value base suffixed w) w) e ∙ ap (λ t. typed t 4294967296) (no_type base suffixed 4294967296 (omega arith)) ∙ sym (ap (λ t. typed t v) (no_type base suffixed v large)))
     (cases_lt v 4294967296)
 
--- the parts that the scanner finds in a number are those of the constant that it spells
+-- the parts that the scanner finds in a number are the parts of the constant that the number spells
 pub kind_from_parts : (number : List ℕ) (base n : ℕ) (suffixed : Bool) → base ≡ base_of number → 1 ≤ base
     → n ≡ prefix_len (is_digit_of base) (drop (prefix_of_base base) number)
     → (n == 0 && not (base == 8)) ≡ false
@@ -61,7 +61,7 @@ kind_from_parts number base n suffixed base_is some n_is digits suffix_is =
     ap (λ v. typed (type_of_value base suffixed v) v) capped ∙ capped_type base suffixed (fold (λ v b. v * base + digit_value b) 0 (take n behind))
     ∙ sym (ap constant_kind (ap (λ b. constant_behind b (prefix_len (is_digit_of b) (drop (prefix_of_base b) number)) (drop (prefix_of_base b) number)) (sym base_is) ∙ whole))
 
--- the same for the values that the code has at hand
+-- the values that the code has computed are the parts of the constant that the number spells
 pub kind_from_behind : (number behind : List ℕ) (base n v : ℕ) (suffixed : Bool) (r : Result TokenKind LexicalError) → base ≡ base_of number → 1 ≤ base
     → behind ≡ drop (prefix_of_base base) number
     → n ≡ prefix_len (is_digit_of base) behind

@@ -12,7 +12,7 @@ use Rattle.cc_tokens.specs.internal.Scan.{head_of, punctuator_at}
 use Rattle.cc_tokens.proofs.ConstantForms.{constant_begins}
 use Rattle.cc_tokens.proofs.Complete.{answer_of, piece_complete, error_complete}
 
--- One more piece.
+-- One more piece can be added at the end of a cut.
 pub cut_more : (ps : List TextPiece) (p : TextPiece) (text rest after : List ℕ) → IsCut ps text rest → rest ≡ piece_bytes p ++ after → StandsBefore p after → IsCut (ps ++ p ∷ []) text after
 cut_more [] p text rest after cut whole stands = (after, cut ∙ whole, stands, refl)
 cut_more (q ∷ ps) p text rest after cut whole stands = (cut.0, cut.1, cut.2, cut_more ps p cut.0 rest after cut.3 whole stands)
@@ -33,7 +33,7 @@ pub cut_whole : (ps : List TextPiece) (text rest : List ℕ) → IsCut ps text r
 cut_whole [] text rest cut = cut
 cut_whole (p ∷ ps) text rest cut = cut.1 ∙ ap (λ bs. piece_bytes p ++ bs) (cut_whole ps cut.0 rest cut.3) ∙ sym (append_assoc (piece_bytes p) (flat_map piece_bytes ps) rest)
 
--- No two ways.
+-- No text can be cut in two ways.
 same_bytes : (c d a b : List ℕ) → c ++ a ≡ d ++ b → length c ≡ length d → (c ≡ d) × (a ≡ b)
 same_bytes c d a b e size = (
   sym (take_at c a (length c) refl) ∙ ap (take (length c)) e ∙ take_at d b (length c) (sym size),
@@ -55,7 +55,7 @@ same_piece (token j c) (token k d) a b e same =
     let parts = same_bytes c d a b e size in
     (ap (λ i. token i c) kinds ∙ ap (token k) parts.0, parts.1)
 
--- two pieces at the beginning of one text are the same
+-- two pieces that a text begins with are the same
 head_piece : (p q : TextPiece) (text a b : List ℕ) → text ≡ piece_bytes p ++ a → StandsBefore p a → text ≡ piece_bytes q ++ b → StandsBefore q b → (p ≡ q) × (a ≡ b)
 head_piece p q text a b whole stands whole' stands' = same_piece p q a b (sym whole ∙ whole') (sym (piece_complete p a stands) ∙ ap head_of (sym whole ∙ whole') ∙ piece_complete q b stands')
 

@@ -16,7 +16,7 @@ use Rattle.cc_tokens.proofs.Tables.{keyword_named-bytes}
 use Rattle.cc_tokens.proofs.Words.{found_passes, missing_fails}
 use Rattle.cc_tokens.proofs.Punctuators.{is_descending, longest_first, head_test, punctuator_found, punctuator_longest, punctuator_missing, punctuator_one}
 
--- the keyword of some bytes is among those with the same first byte
+-- a search for a keyword among those with its first byte finds that keyword
 keyword_among : (k : Keyword) → find (λ j. bytes_eq (keyword_bytes j) (keyword_bytes k)) (keywords_with (slice_index (keyword_bytes k) 0)) ≡ Some k
 keyword_among keyword.Auto = refl
 keyword_among keyword.Break = refl
@@ -122,7 +122,7 @@ begun_descend punctuator.Tilde = refl
 begun_descend punctuator.Exclamation = refl
 begun_descend punctuator.Assign = refl
 
--- what holds of each punctuator with the same first byte holds of this one
+-- what holds of each punctuator with the same first byte as `p` holds of `p`
 of_each_begun : (P : Punctuator → Type 0) (p : Punctuator) → AllByRecursion P (punctuators_with (slice_index (punctuator_bytes p) 0)) → P p
 of_each_begun P punctuator.ShiftLeftAssign all = all.0
 of_each_begun P punctuator.ShiftLeft all = all.1.0
@@ -168,7 +168,7 @@ of_each_begun P punctuator.Question all = all.0
 of_each_begun P punctuator.Colon all = all.0
 of_each_begun P punctuator.Tilde all = all.0
 
--- the first byte of a punctuator and what follows it is the punctuator's own
+-- a punctuator followed by further bytes has the same first byte as the punctuator alone
 first_is : (p : Punctuator) (rest : List ℕ) → slice_index (punctuator_bytes p ++ rest) 0 ≡ slice_index (punctuator_bytes p) 0
 first_is punctuator.ShiftLeftAssign rest = refl
 first_is punctuator.ShiftRightAssign rest = refl

@@ -1,5 +1,5 @@
--- What `tokens` has found before an offset: the text up to there is cut into pieces, and the tokens among them are those found.
--- Each answer of the scanner adds a piece or gives the first error.
+-- What `tokens` has found before an offset: the text up to the offset is cut into pieces, and the tokens among them are those
+-- found. Each result of the scanner adds a piece or is the first error.
 use Rattle.std.proofs.Common.{◌≡◌, ℕ, ◌+◌, ◌-◌, ◌<◌, ◌≤◌, List, [], ◌∷◌, ◌++◌, length, take, drop, refl, sym, ap, ◌∙◌, arith, subst, length-append, length-drop}
 use Rattle.std.specs.List.{flat_map}
 use Rattle.std.proofs.lemmas.List.{take_at, drop_at, append-nil, drop-drop, take_rest, drop_all, map_push}
@@ -29,7 +29,7 @@ order_more low [] at t ordered le some = (omega arith, some, omega arith)
 order_more low (u ∷ ts) at t ordered le some = (ordered.0, ordered.1, order_more u.to ts at t ordered.2 le some)
 
 module _ (text : List ℕ) (ts : List Token) (at n : ℕ) (found : FoundBefore text ts at) where
-  -- one more piece
+  -- if a piece follows, the tokens found before the offset, with the piece's own, are those before its end
   found_piece : (p : TextPiece) (ts' : List Token) → StandsAt (drop at text) n p → lexemes text ts' ≡ lexemes text ts ++ tokens_of at (p ∷ []) → AreInOrder 0 ts' (at + n) → FoundBefore text ts' (at + n)
   found_piece p ts' stands tokens ordered =
       let size = stands.size in

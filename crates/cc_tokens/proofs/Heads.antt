@@ -1,5 +1,5 @@
--- What the scanner returns agrees with the definition of a text's tokens. What it returns is a piece or an error that the bytes
--- begin with (sound), and it returns each piece or error that the bytes begin with (complete).
+-- What the scanner returns agrees with the definition of a text's tokens. The scanner returns a piece or an error only if the
+-- bytes begin with it (sound), and returns each piece or error that the bytes begin with (complete).
 use Rattle.std.proofs.Common.{◌≡◌, ℕ, suc, ◌+◌, ◌<◌, ◌≤◌, ◌⊎◌, Bool, true, false, ◌||◌, ◌==◌, List, [], ◌∷◌, ◌++◌, length, take, drop, refl, sym, ap, ◌∙◌, arith, subst, ⊎_elim, inl, inr, append_assoc, length-append, length-drop, Option, Some, None}
 use Rattle.std.specs.Prelude.{nat_lt, IsTrue}
 use Rattle.std.specs.Char.{is_ascii_digit}
@@ -59,7 +59,7 @@ module _ (b : ℕ) (bs : List ℕ) where
 
 -- Sound.
 
--- the run of a word or a number, and what follows it
+-- the bytes are the run of a word or a number, followed by the rest
 run_whole : (may : ℕ → ℕ → Bool) (b : ℕ) (bs : List ℕ) → b ∷ bs ≡ (b ∷ take (run_length may b bs) bs) ++ drop (run_length may b bs) bs
 run_whole may b bs = ap (λ xs. b ∷ xs) (sym (take-append-drop (run_length may b bs) bs))
 
@@ -128,7 +128,7 @@ number_sound b bs None no_comment digit e = (
 )
 number_sound b bs (Some c) no_comment digit e = typed_sound b bs c (constant_type c) no_comment digit (constant_sound b _ c e) refl
 
--- bytes that begin with no letter, `_` or digit can begin with no token but a punctuator
+-- if the first byte is not a letter, `_` or a digit, the bytes can begin with no token except a punctuator
 marks_punctuator : (b : ℕ) (bs other rest : List ℕ) → is_nondigit b ≡ false → is_ascii_digit b ≡ false → CanBeToken other → b ∷ bs ≡ other ++ rest → (p : Punctuator) × (other ≡ punctuator_bytes p)
 marks_punctuator b bs [] rest no_word no_number (word w) is = absurd w
 marks_punctuator b bs (c ∷ other) rest no_word no_number (word w) is =
@@ -181,7 +181,8 @@ mark_sound b bs (Some p) no_blank no_comment no_word no_number e =
       },
     )
 
--- a comment at the beginning of the bytes, depending on the line splices in it
+-- if a comment is at the beginning of the bytes, what `comment_of` returns is right, whether there is a line splice in the
+-- comment or not
 splices_sound : (c after bytes : List ℕ) → IsComment c after → 0 < length c → bytes ≡ c ++ after → IsHead bytes (comment_of (length c) bytes)
 splices_sound c after bytes commented some whole =
     let n = length c in

@@ -1,6 +1,7 @@
--- How it is shown that a text has one list of tokens. The scanner's functions equal functions on lists. What these return is what
--- the bytes begin with (Heads), and they return whatever the bytes begin with (Complete), so no two tokens are possible. The laws
--- of cuts join the pieces to the tokens of a whole text (Cuts), and each text has tokens or a first error (Total).
+-- How it is proved that a text has at most one list of tokens. The scanner's functions equal functions on lists. The bytes begin
+-- with whatever these functions return (Heads), and the functions return whatever the bytes begin with (Complete), so no two
+-- tokens are possible. The laws of cuts join the pieces into the tokens of a whole text (Cuts), and each text has tokens or a
+-- first error (Total).
 -- the steps of the scanner's loops
 pub mod Loops
 -- the value of a constant, and that capping it is harmless
@@ -17,13 +18,13 @@ pub mod Words
 pub mod Punctuators
 -- a search needs only the keywords or punctuators with the right first byte
 pub mod Few
--- a comment is found, and its first line splice
+-- the scanner finds a comment and the first line splice in it
 pub mod Comments
 -- the bytes begin with what the scanner returns
 pub mod Heads
 -- the scanner returns what the bytes begin with
 pub mod Complete
--- a text is cut in one way
+-- a text can be cut in only one way
 pub mod Cuts
 -- what `tokens` has found before an offset
 pub mod Found

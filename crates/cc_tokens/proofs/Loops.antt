@@ -5,7 +5,7 @@ use Rattle.std.proofs.lemmas.Bool.{cond-true, cond-false, false≢true, and_part
 use Rattle.cc_tokens.specs.Tokens.{begins_close}
 use Rattle.cc_tokens.specs.internal.Scan.{offset_within, run_length}
 
--- a search over one more offset, given its result at the first offset
+-- a search ends at the first offset if its test holds there, and otherwise continues one byte later
 place_first : (test : List ℕ → Bool) (k x : ℕ) (xs : List ℕ) → offset_within test (suc k) (x ∷ xs) ≡ cond (test (x ∷ xs)) 0 (suc (offset_within test k xs))
 unfolding offset_within
 place_first test k x xs = refl

@@ -1,4 +1,5 @@
--- The punctuator that the scanner finds is the longest one that the bytes begin with, because the table has the longest first.
+-- The punctuator that the scanner finds is the longest one that the bytes begin with, because the longest come first in the
+-- table.
 use Rattle.std.proofs.Common.{◌≡◌, ◌≢◌, ℕ, ◌≤◌, Bool, true, false, ◌&&◌, ◌==◌, List, [], ◌∷◌, ◌++◌, length, take, drop, refl, sym, ap, ◌∙◌, arith, subst, Some, None}
 use Rattle.std.specs.Prelude.{nat_le}
 use Rattle.std.specs.List.{find, starts_with, AllByRecursion}
@@ -38,7 +39,7 @@ longest_first test most (x ∷ ps) p descends e =
     (λ not_here e'. ((λ passes. absurd (false≢true (sym not_here ∙ passes))), ih e'))
     e
 
--- the test of the table: the bytes begin with the punctuator
+-- a punctuator passes the test of the table exactly if the bytes begin with it
 pub head_test : (bytes : List ℕ) (p : Punctuator) → (starts_with (λ a b. a == b) bytes (punctuator_bytes p) ≡ true → bytes ≡ punctuator_bytes p ++ drop (length (punctuator_bytes p)) bytes) × ((rest : List ℕ) → bytes ≡ punctuator_bytes p ++ rest → starts_with (λ a b. a == b) bytes (punctuator_bytes p) ≡ true)
 head_test bytes p = starts_is Decides-eqb bytes (punctuator_bytes p) (starts_with (λ a b. a == b) bytes (punctuator_bytes p)) refl
 

@@ -30,7 +30,7 @@ run_longest may before (b ∷ prefix) rest goes =
     let e = cond-true (may before b) (suc (run_length may b (prefix ++ rest))) 0 goes.0 in
     omega arith
 
--- a search's answer: what it looks for begins at none of the places before it, and begins there
+-- what a search looks for begins at the place that it returns, and at none of the places before that
 pub place_fits : (test : List ℕ → Bool) (n : ℕ) (bs : List ℕ) → offset_within test n bs ≤ n
 unfolding offset_within
 place_fits test zero bs = omega arith
@@ -56,7 +56,7 @@ place_here test (suc n) (b ∷ bs) fits below =
     let ih = place_here test n bs (omega arith) in
     cond_both (test (b ∷ bs)) 0 (suc (offset_within test n bs)) (λ k. k < suc n → test (drop k (b ∷ bs)) ≡ true) (λ here lt. here) (λ not_here lt. ih (omega arith)) below
 
--- a search returns no other place
+-- a search returns the first place at which its test holds, however the bytes are cut
 pub place_is : (test : List ℕ → Bool) (prefix after : List ℕ) (n : ℕ) → 0 < length after → Nowhere test prefix after → length prefix < n → test after ≡ true → offset_within test n (prefix ++ after) ≡ length prefix
 unfolding offset_within
 place_is test prefix after zero some none below here = absurd (omega arith)

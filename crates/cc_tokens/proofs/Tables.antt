@@ -1,5 +1,5 @@
--- Facts about every keyword and every punctuator, each by going through all of them: the tables have them all, no two are spelled
--- alike, and a punctuator can begin only with certain bytes.
+-- Facts about every keyword and every punctuator, each by going through all of them: the tables contain them all, no two are
+-- spelled alike, and a punctuator can begin only with certain bytes.
 use Rattle.std.proofs.Common.{◌≡◌, ℕ, Bool, true, List, length, refl, Some}
 use Rattle.std.specs.Prelude.{slice_index, not, ◌&&◌, nat_lt}
 use Rattle.std.specs.List.{AllByRecursion}

@@ -1,5 +1,5 @@
--- Texts with their tokens or their first error, worked by hand: a comment that ends a token, blanks that two signs need, and a
--- number that continues after its exponent letter.
+-- Texts with their tokens or their first error, worked by hand: a comment that ends a token, a blank that keeps two signs
+-- apart, and a number that continues after its exponent letter.
 use Rattle.std.proofs.Common.{◌≡◌, ℕ, ◌+◌, ◌<◌, List, [], ◌∷◌, ◌++◌, length, drop, refl, subst, arith}
 use lib.Chars.{codes}
 use Rattle.cc_tokens.specs.declared.scalar.Scalar.TheVariants.{Int}
@@ -51,12 +51,12 @@ exponent_sign : FirstLexicalError (codes "0xe+1") BadConstant 0
 unfolding head_of run_length base_of suffix_of constant_spelled
 exponent_sign = record { pieces = []; rest = codes "0xe+1"; offset = 0; cut = refl; erroneous = (head_sound (codes "0xe+1") (omega arith)).1; where_at = refl }
 
--- a comment that is never closed, with a line splice in it
+-- a comment that is never closed is reported as such, even if there is a line splice in it
 unclosed_before_splice : FirstLexicalError (47 ∷ 42 ∷ 92 ∷ 10 ∷ []) UnclosedComment 0
 unfolding head_of offset_within
 unclosed_before_splice = record { pieces = []; rest = 47 ∷ 42 ∷ 92 ∷ 10 ∷ []; offset = 0; cut = refl; erroneous = (head_sound (47 ∷ 42 ∷ 92 ∷ 10 ∷ []) (omega arith)).1; where_at = refl }
 
--- a line splice in a comment
+-- a line splice in a comment is an error
 splice_in_comment : FirstLexicalError (47 ∷ 47 ∷ 92 ∷ 10 ∷ []) BadByte 2
 unfolding head_of offset_within
 splice_in_comment = record { pieces = []; rest = 47 ∷ 47 ∷ 92 ∷ 10 ∷ []; offset = 2; cut = refl; erroneous = (head_sound (47 ∷ 47 ∷ 92 ∷ 10 ∷ []) (omega arith)).1; where_at = refl }

@@ -1,4 +1,5 @@
--- Each text is cut up to its end or up to an error: what the rest begins with is the next piece or the error.
+-- Each text can be cut into pieces as far as its end or an error: what is left begins with the next piece or
+-- with the error.
 use Rattle.std.proofs.Common.{ℕ, suc, zero, ◌+◌, ◌≤◌, ◌⊎◌, List, [], ◌∷◌, ◌++◌, length, refl, ap, arith, inl, inr, ⊎_elim, length-append}
 use Rattle.std.specs.List.{flat_map}
 use Rattle.cc_tokens.specs.declared.lexical_error.LexicalError.{LexicalError}
@@ -13,7 +14,7 @@ use Rattle.cc_tokens.proofs.Cuts.{cut_more}
 Ends : List ℕ → Type 0
 Ends text = ((ps : List TextPiece) × IsCut ps text []) ⊎ ((error : LexicalError) × (at : ℕ) × FirstLexicalError text error at)
 
--- one more piece
+-- if the rest begins with a piece, the text is cut up to the end of that piece
 goes : (text : List ℕ) (ps : List TextPiece) (rest : List ℕ) (n most : ℕ) (p : TextPiece) → IsCut ps text rest → length rest ≤ suc most → StandsAt rest n p
     → ((qs : List TextPiece) (left : List ℕ) → IsCut qs text left → length left ≤ most → Ends text) → Ends text
 goes text ps rest n most p cut size stands on =
@@ -34,7 +35,7 @@ by_head text ps rest most (head.Token k n) cut size stands on = goes text ps res
 by_head text ps rest most (head.Error error k) cut size stands on =
     inr (error, length (flat_map piece_bytes ps) + k, record { pieces = ps; rest = rest; offset = k; cut = cut; erroneous = stands.1; where_at = refl })
 
--- `most` is a bound on the length of the rest
+-- a text that is cut up to a rest of at most `most` bytes is cut to its end, or has a first error
 cut_on : (most : ℕ) (text : List ℕ) (ps : List TextPiece) (rest : List ℕ) → IsCut ps text rest → length rest ≤ most → Ends text
 unfolding Ends
 cut_on most text ps [] cut size = inl (ps, cut)

@@ -30,7 +30,7 @@ digit_not_blank b digit = grind (arith, nat_tests)
 pub digit_is_no_nondigit : (b : ℕ) → is_ascii_digit b ≡ true → is_nondigit b ≡ false
 digit_is_no_nondigit b digit = grind (arith, nat_tests)
 
--- what a punctuator's first byte cannot be
+-- the byte may begin a punctuator: it is not white space, a letter, `_` or a digit
 pub record IsMark (b : ℕ) : Type 0 where
   pub no_blank : is_blank b ≡ false
   pub no_nondigit : is_nondigit b ≡ false
@@ -96,7 +96,7 @@ number_head b bs (c ∷ behind) rest digit (number w) e =
     record { behind = behind; whole = cc; others = cc; goes = subst (λ x. Continues continues_number x behind) same w.1 }
 number_head b bs other rest digit (punctuator p is) e = absurd (false≢true (sym (punctuator_marks b bs other rest p is e).no_digit ∙ digit))
 
--- how many bytes a run has, its first included
+-- a token at the beginning is at most as long as the run there
 run_bounds : (may : ℕ → ℕ → Bool) (b : ℕ) (bs other rest : List ℕ) → IsRunFrom may b bs other rest → length other ≤ suc (run_length may b bs)
 run_bounds may b bs other rest run =
     let longest = run_longest may b run.behind rest run.goes in
@@ -107,7 +107,7 @@ run_bounds may b bs other rest run =
 taken_length : (may : ℕ → ℕ → Bool) (b : ℕ) (bs : List ℕ) → length (take (run_length may b bs) bs) ≡ run_length may b bs
 taken_length may b bs = length-take-le (run_length may b bs) bs (run_fits may b bs)
 
--- the word at the beginning is the longest token there, and so is the number
+-- the word or the number at the beginning is the longest token there
 pub word_is_longest : (b : ℕ) (bs : List ℕ) → is_nondigit b ≡ true → IsLongest (b ∷ take (run_length continues_word b bs) bs) (drop (run_length continues_word b bs) bs)
 word_is_longest b bs letter = record {
   can_be = word (letter, run_continues continues_word b bs);
@@ -128,7 +128,7 @@ number_is_longest b bs digit = record {
       omega arith;
 }
 
--- the longest word at the beginning is the run, and so is the number
+-- the longest token at the beginning has the length of the run
 longest_takes : (may : ℕ → ℕ → Bool) (b : ℕ) (bs after : List ℕ) → IsLongest (b ∷ bs) after → Continues may b bs
     → CanBeToken (b ∷ take (run_length may b (bs ++ after)) (bs ++ after)) → run_length may b (bs ++ after) ≡ length bs
 longest_takes may b bs after longest goes can =
@@ -144,7 +144,7 @@ word_takes b bs after longest w = longest_takes continues_word b bs after longes
 pub number_takes : (b : ℕ) (bs after : List ℕ) → IsLongest (b ∷ bs) after → IsNumber (b ∷ bs) → run_length continues_number b (bs ++ after) ≡ length bs
 number_takes b bs after longest w = longest_takes continues_number b bs after longest w.1 (number (w.0, run_continues continues_number b (bs ++ after)))
 
--- a search of a table finds something that passes the test, and finds nothing only if nothing passes
+-- what a search of a table finds passes the test, and the search finds nothing only if nothing passes
 pub found_passes : {X : Type 0} (test : X → Bool) (xs : List X) (x : X) → find test xs ≡ Some x → test x ≡ true
 found_passes test [] x e = absurd (let h : ⊥ = cc in h)
 found_passes {X} test (y ∷ xs) x e =
@@ -157,7 +157,7 @@ missing_fails {X} test (y ∷ xs) e =
     let ih = missing_fails test xs in
     cond_both (test y) (Some y) (find test xs) (λ o. o ≡ None → AllByRecursion (λ x. test x ≡ false) (y ∷ xs)) (λ here e'. absurd (let h : ⊥ = cc in h)) (λ not_here e'. (not_here, ih e')) e
 
--- a word that is found spells the keyword; a word that is not found spells none
+-- a word that is found in the table spells that keyword; a word that is not found spells no keyword
 word_spells_by : (text : List ℕ) (o : Option Keyword) → keyword_named text ≡ o → IsIdentifierText text → SpellsToken (word_kind o) text
 unfolding keyword_named
 word_spells_by text None e w = (w, λ k is. let h : None ≡ Some k = sym e ∙ ap keyword_named is ∙ keyword_named-bytes k in absurd (let g : ⊥ = cc in g))

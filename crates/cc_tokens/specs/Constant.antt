@@ -1,4 +1,4 @@
--- Integer constants (C99 6.4.4.1, as far as the profile has them).
+-- Integer constants (C99 6.4.4.1, as far as the profile includes them).
 use Rattle.std.specs.Prelude.{◌≡◌, ◌≢◌, ℕ, ◌+◌, ◌*◌, ◌⊎◌, Bool, true, false, not, ◌&&◌, ◌||◌, ◌==◌, nat_le, nat_lt, if◌then◌else◌, List, [], ◌∷◌, ◌++◌, Option, Some, None, IsTrue}
 use Rattle.std.specs.List.{fold, AllByRecursion}
 use Rattle.std.specs.Char.{digit_value}
@@ -15,8 +15,8 @@ pub record Constant : Type 0 where
 abbrev pub is_digit_of : ℕ → ℕ → Bool
 is_digit_of base b = nat_lt (digit_value b) base
 
--- the bytes before the digits: none before decimal digits, whose first is not 0; `0` before octal digits, which may be missing;
--- `0x` or `0X` before hexadecimal digits
+-- the bytes before the digits: none before decimal digits, which do not begin with 0; `0` before octal digits, which may be
+-- missing; `0x` or `0X` before hexadecimal digits
 pub data IsPrefix : List ℕ → ℕ → List ℕ → Type 0 where
   decimal : {d : ℕ} {ds : List ℕ} → d ≢ 48 → IsPrefix [] 10 (d ∷ ds)
   octal : {ds : List ℕ} → IsPrefix (48 ∷ []) 8 ds

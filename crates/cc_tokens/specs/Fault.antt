@@ -4,7 +4,7 @@ use Rattle.cc_tokens.specs.declared.place.Place.{Place}
 use Rattle.cc_tokens.specs.declared.fault.SyntaxFault.{SyntaxFault}
 use Rattle.cc_tokens.specs.declared.fault.SyntaxFault.TheVariants.{BadByte, UnclosedComment, BadConstant, ConstantTooLarge, Unexpected, TooDeep, SourceTooLarge, OutOfMemory}
 
--- the number by which a fault is known
+-- the number of a fault
 abbrev pub fault_number : SyntaxFault → ℕ
 fault_number (BadByte p) = 1
 fault_number (UnclosedComment p) = 2
@@ -15,7 +15,7 @@ fault_number (TooDeep p) = 6
 fault_number SourceTooLarge = 7
 fault_number OutOfMemory = 40
 
--- the place of a fault, for those that have one
+-- the place of a fault, if it has one
 abbrev pub fault_place : SyntaxFault → Option Place
 fault_place (BadByte p) = Some p
 fault_place (UnclosedComment p) = Some p

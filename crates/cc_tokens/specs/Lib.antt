@@ -8,7 +8,7 @@ pub mod Token
 pub mod Spelling
 -- integer constants: what spells them, their values and types
 pub mod Constant
--- the tokens of a text, the first error of a text that has none, and why it is refused
+-- the tokens of a text; if it can't be split into tokens, its first error and why it is refused
 pub mod Tokens
 -- reading a text token by token
 pub mod Reading

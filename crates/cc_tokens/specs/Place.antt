@@ -7,7 +7,6 @@ use Rattle.cc_tokens.specs.declared.place.Place.{Place}
 abbrev pub last_line_reversed : List ℕ → List ℕ
 last_line_reversed text = take_while (λ b. not (b == 10)) (reverse text)
 
--- the place of the byte at an offset, or of the end of the text: the line is one more than the newlines before the offset, the
--- column one more than the bytes since the last newline
+-- the place of an offset: the line is one more than the newlines before it, the column one more than the bytes since the last of these
 abbrev pub place_of : List ℕ → ℕ → Place
 place_of text at = record { line = 1 + count_by (λ b. b == 10) (take at text); column = 1 + length (last_line_reversed (take at text)) }

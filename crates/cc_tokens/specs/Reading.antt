@@ -7,7 +7,7 @@ use Rattle.cc_tokens.specs.declared.lexer.NextToken.TheVariants as next
 use Rattle.cc_tokens.specs.Token.{lexemes}
 use Rattle.cc_tokens.specs.Tokens.{TextPiece, piece_bytes, IsCut, tokens_of, AreInOrder, FirstLexicalError}
 
--- the tokens before the offset are ts: the text up to there is cut into pieces, and these are the tokens among them
+-- the tokens before the offset are `ts`: the text before it is cut into pieces, and their tokens are `ts`
 pub record FoundBefore (text : List ℕ) (ts : List Token) (at : ℕ) : Type 0 where
   pub within : at ≤ length text
   pub pieces : List TextPiece
@@ -16,7 +16,7 @@ pub record FoundBefore (text : List ℕ) (ts : List Token) (at : ℕ) : Type 0 w
   pub tokens : lexemes text ts ≡ tokens_of 0 pieces
   pub ordered : AreInOrder 0 ts at
 
--- what comes next: one more token, or no other up to the end of the text, or the text's first error
+-- what comes next is right: one more token, or no further token in the text, or the text's first error
 abbrev pub FoundNext : List ℕ → List Token → NextToken → Type 0
 FoundNext text ts (next.Token t) = FoundBefore text (ts ++ t ∷ []) t.to
 FoundNext text ts next.End = FoundBefore text ts (length text)

@@ -47,7 +47,7 @@ keyword_bytes Bool = codes "_Bool"
 keyword_bytes Complex = codes "_Complex"
 keyword_bytes Imaginary = codes "_Imaginary"
 
--- the bytes of a punctuator (C99 6.4.6, as far as the profile has them)
+-- the bytes of a punctuator (C99 6.4.6, as far as the profile includes them)
 -- ORDER Punctuator
 abbrev pub punctuator_bytes : Punctuator → List ℕ
 punctuator_bytes OpenParenthesis = codes "("

@@ -1,4 +1,4 @@
--- A token with its bytes, whatever its place in memory.
+-- A token with its bytes, without its layout in memory.
 use Rattle.std.specs.Prelude.{ℕ, List, map, slice_range}
 use Rattle.cc_tokens.specs.declared.token.TokenKind.{TokenKind}
 use Rattle.cc_tokens.specs.declared.token.Token.{Token}

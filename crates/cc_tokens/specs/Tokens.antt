@@ -25,7 +25,7 @@ is_blank b = b == 32 || (nat_le 9 b && nat_le b 13)
 abbrev pub is_nondigit : ℕ → Bool
 is_nondigit b = is_ascii_alphabetic b || b == 95
 
--- a byte that continues an identifier, whatever precedes it
+-- a byte that continues an identifier, whatever byte precedes it
 abbrev pub continues_word : ℕ → ℕ → Bool
 continues_word before b = is_nondigit b || is_ascii_digit b
 
@@ -65,12 +65,12 @@ SpellsToken (kind.Keyword k) text = text ≡ keyword_bytes k
 SpellsToken (kind.Number type n) text = (c : Constant) × SpellsConstant c text × (constant_type c ≡ Some type) × (n ≡ digits_value c)
 SpellsToken (kind.Punctuator p) text = text ≡ punctuator_bytes p
 
--- text is the longest prefix, of itself and what follows it, that can be a token (6.4, paragraph 4)
+-- `text` can be a token, and no longer prefix of `text` followed by `after` can (6.4, paragraph 4)
 pub record IsLongest (text after : List ℕ) : Type 0 where
   pub can_be : CanBeToken text
   pub longest : (other rest : List ℕ) → CanBeToken other → text ++ after ≡ other ++ rest → length other ≤ length text
 
--- a comment begins here: `/*` or `//` (6.4.9). Past the end of the bytes `slice_index` is 0, which no test looks for.
+-- a comment begins here: `/*` or `//` (6.4.9). Past the end of the bytes `slice_index` returns 0, which no test looks for.
 abbrev pub begins_comment : List ℕ → Bool
 begins_comment bytes = slice_index bytes 0 == 47 && (slice_index bytes 1 == 42 || slice_index bytes 1 == 47)
 
@@ -86,12 +86,12 @@ begins_line_end bytes = slice_index bytes 0 == 10
 abbrev pub begins_splice : List ℕ → Bool
 begins_splice bytes = slice_index bytes 0 == 92 && (slice_index bytes 1 == 10 || (slice_index bytes 1 == 13 && slice_index bytes 2 == 10))
 
--- the test holds at no byte of the prefix, read together with what follows
+-- the test holds at no byte of the prefix, with what follows that byte in view
 abbrev pub Nowhere : (List ℕ → Bool) → List ℕ → List ℕ → Type 0
 Nowhere test [] after = Unit {0}
 Nowhere test (b ∷ prefix) after = (test (b ∷ prefix ++ after) ≡ false) × Nowhere test prefix after
 
--- a comment, and what follows it: `/*` up to the first `*/` after it, or `//` up to the end of the line or of the text (6.4.9)
+-- a comment, and what follows it: `/*` up to the first `*/`, or `//` up to the end of the line or of the text (6.4.9)
 pub data IsComment : List ℕ → List ℕ → Type 0 where
   block : {after : List ℕ} (body : List ℕ) → Nowhere begins_close body (42 ∷ 47 ∷ after) → IsComment (47 ∷ 42 ∷ body ++ (42 ∷ 47 ∷ [])) after
   line : {after : List ℕ} (body : List ℕ) → Nowhere begins_line_end body after → (after ≡ []) ⊎ IsTrue (begins_line_end after) → IsComment (47 ∷ 47 ∷ body) after
@@ -109,7 +109,7 @@ piece_bytes (comment c) = c
 piece_bytes (token k text) = text
 
 -- the piece is right, given what follows it: a comment has no line splice; a token does not begin like a comment, is the longest
--- possible, and is what its bytes spell
+-- possible, and its bytes spell it
 abbrev pub StandsBefore : TextPiece → List ℕ → Type 0
 StandsBefore (blank b) after = IsTrue (is_blank b)
 StandsBefore (comment c) after = IsComment c after × Nowhere begins_splice c after
@@ -179,7 +179,7 @@ pub record IsTooLarge (bytes : List ℕ) : Type 0 where
   pub spelled : SpellsConstant constant text
   pub no_type : constant_type constant ≡ None
 
--- the bytes begin with no piece but with this error, at an offset from their first byte
+-- the bytes begin not with a piece but with this error, which is at an offset from their first byte
 abbrev pub IsLexicalError : LexicalError → List ℕ → ℕ → Type 0
 IsLexicalError BadByte bytes offset = (IsStray bytes × (offset ≡ 0)) ⊎ IsSpliced bytes offset
 IsLexicalError UnclosedComment bytes offset = IsUnclosed bytes × (offset ≡ 0)
@@ -211,7 +211,7 @@ AreInOrder low (t ∷ ts) high = (low ≤ t.from) × (t.from < t.to) × AreInOrd
 abbrev pub most_bytes : ℕ
 most_bytes = 65536
 
--- the text has at most that many bytes, and the fault is that of its first error, at that error's place
+-- the text has at most `most_bytes` bytes, and the fault is that of its first error, at that error's place
 pub record IsLexicalFault (text : List ℕ) (fault : SyntaxFault) : Type 0 where
   pub fits : length text ≤ most_bytes
   pub error : LexicalError

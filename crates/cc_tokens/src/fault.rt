@@ -7,7 +7,7 @@ use super::place::Place;
 use std::alloc::AllocError;
 use thiserror::Error;
 
-/// Why a text has no tokens or no syntax tree. Each fault but `SourceTooLarge` and `OutOfMemory` has its place.
+/// Why a text has no tokens or no syntax tree. Each fault except `SourceTooLarge` and `OutOfMemory` has a place.
 #[derive(Debug, Drop, Error)]
 pub enum SyntaxFault {
     /// 1: a byte that begins no token, or a line splice in a comment.

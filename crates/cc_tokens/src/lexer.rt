@@ -35,13 +35,14 @@ fn fault_at(text: &[u8], error: LexicalError, at: usize) -> SyntaxFault
 #[derive(Clone, Copy)]
 pub enum NextToken {
     Token(Token),
-    /// There is no token up to the end of the text.
+    /// There is no further token in the text.
     End,
-    /// There is an error first: the first error of the text, and its offset.
+    /// An error comes before any further token: the first error of the text, with its offset.
     Error(LexicalError, usize),
 }
 
-/// Returns the next token of a text, from an offset at the end of the tokens before it. Takes no memory.
+/// Returns the next token of a text at or after the offset `at`. The result is right if the text before `at` consists of whole
+/// tokens, comments and white space (`found`). Takes no memory.
 pub fn next_token(text: &[u8], at: usize) -> NextToken
     requires { at ≤ length text.now }
     ensures found { (ts : List token.Token) → FoundBefore text.now ts at → FoundNext text.now ts result }
@@ -67,8 +68,8 @@ pub fn next_token(text: &[u8], at: usize) -> NextToken
 /// Refuses with 7 (SourceTooLarge) a text of more than 65,536 bytes, whatever else is wrong with it. Otherwise it refuses with
 /// the first lexical error of the text, at the error's first byte: 1 (BadByte) for a byte that begins no token or a line splice
 /// in a comment, 2 (UnclosedComment) for a comment that is never closed, 3 (BadConstant) for a number that is not a constant, 4
-/// (ConstantTooLarge) for a constant above 2147483647 that is decimal and has no suffix, or for any above 4294967295. It refuses
-/// with 40 (OutOfMemory) if memory for the tokens runs out.
+/// (ConstantTooLarge) for a constant above 2147483647 that is decimal and has no suffix, or for any constant above 4294967295.
+/// It refuses with 40 (OutOfMemory) if memory for the tokens runs out.
 pub fn tokens(alloc: Global, text: &[u8]) -> Result<Vec<Token>, SyntaxFault>
     ensures fits { IfOk result (λ ts. length text.now ≤ most_bytes) }
     ensures ordered { IfOk result (λ ts. AreInOrder 0 ts.items (length text.now)) }

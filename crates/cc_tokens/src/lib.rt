@@ -1,4 +1,4 @@
-//! From C text to its tokens (C99 6.4, as far as the profile has them), and the refusals of a text.
+//! From C text to its tokens (C99 6.4, as far as the profile includes them), and why a text is refused.
 //!
 //! - `token`: the types of tokens.
 //! - `scalar`: the types of numbers.
@@ -6,7 +6,7 @@
 //! - `lexer`: the tokens of a whole text.
 //! - `lexical_error`: why a text has no tokens.
 //! - `place`: lines and columns.
-//! - `fault`: the refusals, those of the syntax included, so that one type has both.
+//! - `fault`: why a text is refused, in tokens or in syntax, as one type.
 //!
 //! The crate exports `tokens`, `next_token`, `place_at`, the types, and the definitions that their contracts use (`specs/`).
 #![tactic(auto)]

@@ -1,7 +1,7 @@
 // What the remaining bytes of a text begin with: white space, a comment, a token, or an error.
 //
-// Each function returns what the function of the same name in specs/internal/Scan.antt gives. proofs/ shows that those agree with
-// the definition of a text's tokens.
+// Each function returns what the function of the same name in specs/internal/Scan.antt returns. proofs/ shows that the functions
+// in Scan.antt agree with the definition of a text's tokens.
 
 ghost use Rattle.std.specs.Prelude.{◌≡◌, ◌+◌, ◌*◌, ◌<◌, ◌≤◌, ◌||◌, ◌&&◌, ◌==◌, true, length, drop, min, slice_index};
 ghost use Rattle.std.specs.List.{find, fold, prefix_len, starts_with};
@@ -27,7 +27,7 @@ enum Mark {
     Splice,
 }
 
-/// A kind of token that continues byte by byte.
+/// A kind of token whose bytes are read as one run.
 #[derive(Clone, Copy)]
 enum Run {
     Word,
@@ -120,7 +120,7 @@ fn offset_within(mark: Mark, bytes: &[u8], n: usize) -> usize
     n
 }
 
-// How many bytes the run at the beginning has. The first byte is known to belong to it.
+// How many bytes the run at the beginning has. The caller knows that the first byte belongs to the run.
 fn run_len(run: Run, bytes: &[u8]) -> usize
     requires { 0 < length bytes.now }
     ensures value { result ≡ run_of (goes_on run) bytes.now }
@@ -133,7 +133,7 @@ fn run_len(run: Run, bytes: &[u8]) -> usize
     n
 }
 
-// The keywords that begin with a byte.
+// The keywords that begin with this byte.
 fn keywords_with(first: u8) -> &'static [Keyword]
     ensures { result.now ≡ keywords_with first }
 {
@@ -184,7 +184,7 @@ fn keyword_named(word: &[u8]) -> Option<Keyword>
     keyword_in(keywords_with(byte_at(word, 0)), word)
 }
 
-// The punctuators that begin with a byte, the longest first.
+// The punctuators that begin with this byte, the longest first.
 fn punctuators_with(first: u8) -> &'static [Punctuator]
     ensures { result.now ≡ punctuators_with first }
 {
@@ -399,7 +399,7 @@ fn comment_head(bytes: &[u8]) -> Head
     }
 }
 
-/// What the bytes begin with. There is at least one byte.
+/// What the bytes begin with. There must be at least one byte.
 #[tactic(auto, unfolding(crate::specs::internal::Scan::head_of))]
 pub fn head_of(bytes: &[u8]) -> Head
     requires { 0 < length bytes.now }

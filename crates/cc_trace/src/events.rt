@@ -1,4 +1,4 @@
-// What is watched of a run.
+// What is watched in a run.
 
 use cc_syntax::Identifier;
 use std::alloc::{AllocError, Global};
@@ -31,7 +31,7 @@ impl Arguments {
     }
 }
 
-/// What a run does, with the offset in the text at which it does it; for a name the offset of the name.
+/// Something that a run does, with the offset in the text at which it does so; for a name, the offset of the name.
 #[derive(Clone, Copy)]
 pub enum Event<'a> {
     /// A function is called.
@@ -40,7 +40,7 @@ pub enum Event<'a> {
     Turn(usize),
     /// A variable gets a word.
     Set(&'a Identifier, u32),
-    /// The element with an index gets a word.
+    /// The element at an index gets a word.
     SetElement(&'a Identifier, u32, u32),
     /// A word of the input is read.
     Read(usize, u32),
@@ -48,7 +48,7 @@ pub enum Event<'a> {
     Write(usize, u32),
 }
 
-/// How often each instruction ran, and each function was entered.
+/// How often each instruction ran, and how often each function was entered.
 #[derive(Drop)]
 pub struct Counts {
     pub instructions: Vec<u64>,
@@ -81,7 +81,8 @@ fn zeros(alloc: Global, count: usize) -> Result<Vec<u64>, AllocError> {
     Ok(counts)
 }
 
-/// What is kept of a run: the newest events, up to a number, and how often each instruction ran. Memory for it is taken at the beginning.
+/// What is kept of a run: the newest events, up to a number, and how often each instruction ran. Memory for these is allocated before the
+/// run.
 #[derive(Drop)]
 pub struct Watch<'a> {
     events: Vec<Event<'a>>,
@@ -121,7 +122,7 @@ impl<'a> Watch<'a> {
         }
     }
 
-    /// Notes an event; the oldest goes if there are too many.
+    /// Notes an event; the oldest event is dropped if there are too many.
     pub(crate) fn note(&mut self, event: Event<'a>) {
         if self.most == 0 {
             return;
@@ -130,7 +131,7 @@ impl<'a> Watch<'a> {
         self.seen = self.seen.saturating_add(1);
         match self.events.get_mut(place) {
             Some(old) => *old = event,
-            // There is room for it.
+            // The events do not fill the allocated memory yet.
             None => drop(self.events.push(event)),
         }
     }

@@ -1,8 +1,8 @@
 // The place in the text from which each instruction of a tree comes.
 //
-// `cc_diagnostic` writes the instructions of a tree in the order of its text, and keeps no places. This walk goes over the tree
-// in the same order and writes a mark whenever that one writes an instruction, so there are as many marks, in the same order.
-// Whoever uses them compares how many there are.
+// `cc_diagnostic` writes the instructions of a tree in the order of its text, and keeps no places. This walk visits the tree in
+// the same order and writes a mark whenever `cc_diagnostic` writes an instruction, so there are as many marks as instructions, in
+// the same order. Users of the marks compare the two numbers.
 
 use cc_resolve::unary_operation;
 use cc_syntax::{
@@ -13,10 +13,11 @@ use cc_tokens::{Keyword, Token, TokenKind, tokens};
 use cc_types::{applied_operator, step_operator};
 use std::alloc::{AllocError, Global};
 
-/// The place of an instruction that comes from no place of the text.
+/// The place of an instruction that comes from no place in the text.
 pub const NOWHERE: usize = usize::MAX;
 
-/// The origin of an instruction: an offset in the text; and which name it gives a value, if the text says so there.
+/// The origin of an instruction: an offset in the text, and the name to which the instruction gives a value, if the text has one
+/// there.
 #[derive(Clone, Copy)]
 pub struct Mark<'a> {
     pub at: usize,
@@ -44,7 +45,7 @@ fn begins(token: Token) -> bool {
     }
 }
 
-// The offsets of the tokens that begin such statements.
+// The offsets of the tokens that begin a statement whose place the tree does not keep.
 fn words_of(alloc: Global, text: &[u8]) -> Result<Vec<usize>, AllocError> {
     match tokens(alloc, text) {
         Ok(tokens) => {
@@ -73,7 +74,7 @@ impl<'a> Marker<'a> {
         self.mark(self.here, None);
     }
 
-    // The place of the next word that begins a statement; it becomes the newest.
+    // The place of the next word that begins a statement; it becomes the newest place.
     fn word(&mut self) -> usize {
         let at = self.words.get(self.taken).copied().unwrap_or(NOWHERE);
         self.taken = self.taken.saturating_add(1);
@@ -153,7 +154,7 @@ impl<'a> Marker<'a> {
         self.store(target, applied_operator(step_operator(operator)).is_some());
     }
 
-    // The target of an assignment: the index of an element is pushed.
+    // Marks the instructions that push the index, if the target of an assignment is an element.
     fn goal(&mut self, target: &'a Target) {
         match target {
             Target::Variable(name) => self.here = name.at,
@@ -164,7 +165,7 @@ impl<'a> Marker<'a> {
         }
     }
 
-    // Stores a word in the target, with an operator or without.
+    // Marks the instructions that store a word in the target, with or without an operator.
     fn store(&mut self, target: &'a Target, is_applied: bool) {
         let name = match target {
             Target::Variable(name) => {
@@ -212,7 +213,7 @@ impl<'a> Marker<'a> {
         }
     }
 
-    // `return`, `break` or `continue`, and what is returned.
+    // Marks the instructions of a `return` with its value, of a `break` or of a `continue`.
     fn leave(&mut self, at: usize, given: &'a Option<Box<Expression>>) {
         self.here = at;
         self.condition(given);
@@ -245,7 +246,7 @@ impl<'a> Marker<'a> {
         }
     }
 
-    // The test of an `if`, and the jump after it.
+    // Marks the instructions of the test of an `if`, and the jump after them.
     fn test(&mut self, test: &'a Expression) {
         let at = self.word();
         self.expression(test);
@@ -304,7 +305,7 @@ impl<'a> Marker<'a> {
         }
     }
 
-    // A function, and its end, which comes from no place.
+    // Marks the instructions of a function, and those of its end, which come from no place.
     fn definition(&mut self, signature: &'a Signature, statements: &'a [Statement]) {
         self.here = signature.name.at;
         self.statements(statements);

@@ -30,7 +30,7 @@ impl<'a> Traced<'a> {
     }
 }
 
-/// The instructions of a unit with their places. Nothing if the unit has no instructions, or if there are not as many places as
+/// The instructions of a unit with their places. `None` if the unit has no instructions, or if there are not as many places as
 /// instructions.
 ///
 /// `AllocError` if memory for it runs out.

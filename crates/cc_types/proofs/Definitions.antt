@@ -1,4 +1,4 @@
--- The functions that some external declarations define, one by one.
+-- Finding the functions that external declarations define, one by one.
 use Rattle.std.proofs.Common.{◌≡◌, ℕ, zero, suc, List, [], ◌∷◌, ◌++◌, length, map, slice_get, Some, refl, ap, ◌∙◌}
 use Rattle.cc_ast.specs.Erase.{external_tree, external_trees}
 use Rattle.cc_ast.specs.Tree as tree

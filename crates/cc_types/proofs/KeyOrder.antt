@@ -1,4 +1,4 @@
--- A map ordered by its keys' bytes finds exactly the names that are the same.
+-- A look-up in a map ordered by its keys' bytes finds exactly the key that is the same name.
 use Rattle.std.proofs.Common.{◌≡◌, ℕ, Bool, cond, List, Option, sym, ap, ◌∙◌, Bor}
 use Rattle.std.specs.Cmp.Lexicographic.{slice_cmp, texts_ties}
 use Rattle.std.specs.declared.cmp.Ordering.{Ordering}
@@ -7,7 +7,7 @@ use Rattle.std.specs.Map.{lookup}
 use Rattle.std.specs.BTreeMap.{BTreeMap, get, Updates}
 use Rattle.cc_types.specs.Names.{same_name}
 
--- two keys are the same name
+-- whether two keys are the same name
 abbrev pub same_key : Bor (List ℕ) → Bor (List ℕ) → Bool
 same_key a b = same_name a.now b.now
 
@@ -20,11 +20,11 @@ pub same_key-ties : (x q : Bor (List ℕ)) → same_key x q ≡ is_eq (key_cmp x
 same_key-ties x q = texts_ties x.now q.now
 
 module _ {X : Type 0} where
-  -- what the map finds by this order
+  -- the map finds by this order what a search for the same name finds among its entries
   pub lookup-get : (m : BTreeMap (Bor (List ℕ)) X) (x : Bor (List ℕ)) → lookup (same_key x) m.entries ≡ get key_cmp m x
   lookup-get m x = λ i. lookup (λ k. same_key-ties x k i) m.entries
 
-  -- the map after a change at a name
+  -- after a change at a name, the map has the new value for that name, and the old value for every other name
   pub lookup-updated : (old new : BTreeMap (Bor (List ℕ)) X) (k : Bor (List ℕ)) (w : Option X) → Updates key_cmp old new k w
       → (q : Bor (List ℕ)) → lookup (same_key q) new.entries ≡ cond (same_key k q) w (lookup (same_key q) old.entries)
   lookup-updated old new k w u q =

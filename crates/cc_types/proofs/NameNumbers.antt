@@ -9,7 +9,7 @@ use Rattle.cc_types.specs.Numberings.{numbered_in, number_of_name, number_or_nex
 use Rattle.std.specs.Ordering.{is_eq}
 use Rattle.cc_types.proofs.KeyOrder.{same_key, key_cmp, same_key-ties, lookup-get}
 
--- what the map has for a name is its number
+-- a look-up of a name in the map's entries finds the name's number
 pub lookup-numbered : (entries : List (Bor (List ℕ) × ℕ)) (q : Bor (List ℕ)) → lookup (same_key q) entries ≡ number_of_name (numbered_in entries) q.now
 lookup-numbered [] q = refl
 lookup-numbered (e ∷ es) q = ap (cond (same_name q.now e.0.now) (Some e.1)) (lookup-numbered es q)
@@ -82,7 +82,7 @@ module _ (old new : List (List ℕ × ℕ)) (x : List ℕ) (n : ℕ) (numbers : 
   pub IsNumbered-is : IsNumbered old new x n
   IsNumbered-is = record { number = is; found = found; numbers = record { one = one; below = below }; longer = longer }
 
--- the map after a name gets a number, its own or the next
+-- once a name gets a number, its own or the next, the names in the map are numbered as `IsNumbered` says
 module _ (old new : BTreeMap (Bor (List ℕ)) ℕ) (k : Bor (List ℕ)) (n : ℕ) (numbers : AreNumbers (numbered_in old.entries)) where
   IsNumbered-map : n ≡ number_or_next (numbered_in old.entries) k.now → ((q : Bor (List ℕ)) → get key_cmp new q ≡ cond (is_eq (key_cmp k q)) (Some n) (get key_cmp old q))
       → length new.entries ≡ length old.entries + cond (is_some (get key_cmp old k)) 0 1 → IsNumbered (numbered_in old.entries) (numbered_in new.entries) k.now n
@@ -115,12 +115,12 @@ IsNumbered-again names x n numbers own = record {
 
 -- ---- tables indexed by the numbers of names
 
--- after this the name has number `n`
+-- once the name is numbered `n`, that is its number
 pub number-own : (old new : List (List ℕ × ℕ)) (x : List ℕ) (n : ℕ) → IsNumbered old new x n → number_of_name new x ≡ Some n
 number-own old new x n is = is.found x ∙ ap (λ c. cond c (Some n) (number_of_name old x)) (nat_list_eq_equiv.refl x)
 
 module _ {A : Type 0} where
-  -- after one more name gets a number, a table has for each name what it had
+  -- once one more name has a number, a table still has for each name what it had before
   pub at-numbered : (old new : List (List ℕ × ℕ)) (x : List ℕ) (n : ℕ) (table : ℕ → Option A) → ((m : ℕ) → length old ≤ m → table m ≡ None) → IsNumbered old new x n
       → (y : List ℕ) → at_number table (number_of_name new y) ≡ at_number table (number_of_name old y)
   at-numbered old new x n table rest is y = ap (at_number table) (is.found y) ∙ by (same_name x y) refl
@@ -142,7 +142,7 @@ module _ {A : Type 0} where
   -- a table that was changed at the number of one name:
   module _ (names : List (List ℕ × ℕ)) (x : List ℕ) (n : ℕ) (own : number_of_name names x ≡ Some n) (numbers : AreNumbers names)
       (old new : ℕ → Option A) (w : Option A) (updates : (m : ℕ) → new m ≡ cond (nat_eq n m) w (old m)) where
-    -- it has the new value for that name, and what it had for every other
+    -- the table has the new value for that name, and the old value for every other name
     pub at-changed : (y : List ℕ) → at_number new (number_of_name names y) ≡ cond (same_name x y) w (at_number old (number_of_name names y))
     at-changed y = by (number_of_name names y) (same_name x y) refl refl
       where
@@ -162,7 +162,7 @@ module _ {A : Type 0} where
                 absurd (let no : true ≡ false = sym (numbers.one x y m (own ∙ ap Some at) e) ∙ h in cc)
             other false k = k
 
-    -- it still has nothing at a number that no name has
+    -- the table still has nothing at a number that no name has
     pub rest-changed : ((m : ℕ) → length names ≤ m → old m ≡ None) → (m : ℕ) → length names ≤ m → new m ≡ None
     rest-changed rest m h =
         updates m ∙ ap (λ c. cond c w (old m)) (let few = numbers.below x n own in let is : nat_eq n m ≡ false = grind (arith, nat_tests, few, h) in is) ∙ rest m h

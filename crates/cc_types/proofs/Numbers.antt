@@ -57,12 +57,12 @@ is_some-number_of : (h : Option Newest) → is_some h ≡ is_some (number_of h)
 is_some-number_of None = refl
 is_some-number_of (Some n) = refl
 
--- a name that would hide another is declared already
+-- a name is declared already exactly if a new binding of it hides another
 pub is_declared-hides : (bs : List Binding) (x : List ℕ) (i : ℕ) (h : Option Newest) → i ≤ length bs → take i bs ≡ [] → number_of h ≡ number_in bs x → is_some h ≡ is_declared (drop i bs) x
 is_declared-hides bs x i h fits inner number =
     is_some-number_of h ∙ ap is_some number ∙ is_some-number_in bs x ∙ sym (ap (λ j. is_declared (drop j bs) x) (none-inner bs i fits inner))
 
--- the scope after the declaration of a name that is declared already, and of a new one
+-- declaring a name that is declared already leaves the scope as it is; a new name becomes the scope's newest
 pub scope-stays : (bs : List Binding) (x : List ℕ) (entity : Entity) (i : ℕ) → i ≤ length bs → take i bs ≡ [] → is_declared (drop i bs) x ≡ true
     → scope_of bs i ≡ file_level (with_declared x entity (record { bindings = drop i bs; defined = [] })).bindings
 scope-stays bs x entity zero fits inner h = sym (ap (λ c. file_level (cond c bs (record { name = x; entity = entity } ∷ bs))) h)

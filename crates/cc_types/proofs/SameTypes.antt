@@ -24,7 +24,8 @@ types-of-other-lengths (p ∷ ps) (q ∷ qs) h =
     by true e = e
     by false e = refl
 
--- two lists of types from an index on are the same if the first types and the rest are
+-- from an index on, two lists of types are the same exactly if their first types are the same and so are the
+-- rests
 pub types-at : (ps qs : List Parameter) (i : ℕ) (p q : Parameter) → drop i ps ≡ p ∷ drop (i + 1) ps → drop i qs ≡ q ∷ drop (i + 1) qs
     → same_scalars (types_of (drop i ps)) (types_of (drop i qs)) ≡ (same_scalar p.scalar q.scalar && same_scalars (types_of (drop (i + 1) ps)) (types_of (drop (i + 1) qs)))
 types-at ps qs i p q ep eq = ap (λ l. same_scalars (types_of l) (types_of (drop i qs))) ep ∙ ap (λ l. same_scalars (types_of (p ∷ drop (i + 1) ps)) (types_of l)) eq

@@ -68,7 +68,7 @@ not-found (b ∷ bs) x e = by (same_name b.name x) (not-found bs x) e
     by true f k = absurd cc
     by false f k = f k
 
--- what a look-up of a name finds, given the number of its newest binding
+-- if a look-up of a name returns the number of the name's newest binding, it finds what the name denotes
 pub entity_found-is : (bs : List Binding) (x : List ℕ) (r : Option Newest) → number_of r ≡ number_in (bindings_of bs) x → IfSome r (λ n. (d : Binding) → n.entity ≡ (get_or bs n.number d).entity)
     → entity_found r ≡ scope.found (bindings_of bs) x
 entity_found-is bs x None e h = sym (not-found (bindings_of bs) x (sym e))
@@ -77,7 +77,8 @@ entity_found-is (b ∷ bs) x (Some n) e h =
     ap (λ a. Some (entity_of a)) (h b) ∙ ap (λ (l : List Binding). Some (entity_of (get_or l n.number b).entity)) (sym (reverse-reverse (b ∷ bs)))
     ∙ sym ((at-reverse (reverse (b ∷ bs)) x n.number (sym e)).entity b)
 
--- the same with one newer binding
+-- a look-up finds what the name denotes even if the entity is read from a list with one more binding at its
+-- end
 pub entity_found-pushed : (bs : List Binding) (b : Binding) (x : List ℕ) (r : Option Newest) → number_of r ≡ number_in (bindings_of bs) x
     → IfSome r (λ n. (d : Binding) → n.entity ≡ (get_or (bs ++ b ∷ []) n.number d).entity) → entity_found r ≡ scope.found (bindings_of bs) x
 entity_found-pushed bs b x None e h = entity_found-is bs x None e tt
@@ -106,11 +107,11 @@ IsTable-numbered bs old new x n table before is = record {
   rest = rest-numbered old new x n table before.rest is;
 }
 
--- what the table has at the number of a name
+-- at the number of a name, the table has the name's newest binding
 pub table-at : (bs : List Binding) (names : List (List ℕ × ℕ)) (table : ℕ → Option ℕ) → IsTable bs names table → (x : List ℕ) (n : ℕ) → number_of_name names x ≡ Some n → table n ≡ number_in (bindings_of bs) x
 table-at bs names table is x n e = sym (ap (at_number table) e) ∙ is.found x
 
--- what the table has at a name's number, once the name has one
+-- the table also has the newest binding of a name that has just been given its number
 pub hidden-is : (bs : List Binding) (old new : List (List ℕ × ℕ)) (x : List ℕ) (n : ℕ) (table : ℕ → Option ℕ) → IsTable bs old table → IsNumbered old new x n → (r : Option ℕ) → r ≡ table n → r ≡ number_in (bindings_of bs) x
 hidden-is bs old new x n table before is r e = e ∙ table-at bs new table (IsTable-numbered bs old new x n table before is) x n (number-own old new x n is)
 
@@ -151,7 +152,7 @@ module _ (bs : List Binding) (b : Binding) (names : List (List ℕ × ℕ)) (old
       restored y true h = sym ew ∙ hidden_is.1 ∙ ap (number_in (bindings_of bs)) ((bytes_decides b.name.now y).0 h)
       restored y false h = refl
 
-  -- the newest binding's number is in the table, so restoring what it hides takes no memory
+  -- the newest binding's number is in the table, so restoring what it hides needs no memory
   pub newest-there : old b.number ≡ Some (length (map binding_of (reverse bs)))
   newest-there = sym (ap (at_number old) hidden_is.0) ∙ found_is b.name.now ∙ ap (λ c. cond c (Some (length (map binding_of (reverse bs)))) (number_in (bindings_of bs) b.name.now)) (same-itself b.name.now)
 

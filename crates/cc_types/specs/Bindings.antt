@@ -8,7 +8,7 @@ use Rattle.cc_types.specs.Entities.{entity_of}
 use Rattle.cc_types.specs.declared.bindings.Binding.{Binding}
 use Rattle.cc_types.specs.declared.bindings.Newest.{Newest}
 
--- a binding as the definitions see it
+-- a binding of the code, in terms of the definitions
 abbrev pub binding_of : Binding → scope.Binding
 binding_of b = record { name = b.name.now; entity = entity_of b.entity }
 
@@ -21,8 +21,8 @@ abbrev pub number_in : List scope.Binding → List ℕ → Option ℕ
 number_in [] x = None
 number_in (b ∷ behind) x = if same_name b.name x then Some (length behind) else number_in behind x
 
--- each binding has the number of its name, and keeps what was the newest binding of its name before it; the bindings are given
--- newest first
+-- each binding has the number of its name, and records which binding of its name was the newest before it; the bindings are
+-- given newest first
 abbrev pub AreHidden : List (List ℕ × ℕ) → List Binding → Type 0
 AreHidden names [] = Unit {0}
 AreHidden names (b ∷ rest) = (number_of_name names b.name.now ≡ Some b.number) × (b.hidden ≡ number_in (map binding_of rest) b.name.now) × AreHidden names rest
@@ -43,7 +43,7 @@ abbrev pub entity_found : Option Newest → Option scope.Entity
 entity_found None = None
 entity_found (Some n) = Some (entity_of n.entity)
 
--- the scope made of some bindings, if the innermost scope has declared `inner` of them
+-- the scope made from some bindings, if the innermost scope has declared `inner` of them
 abbrev pub scope_of : List scope.Binding → ℕ → Visible
 scope_of all inner = record { inner = take inner all; outer = drop inner all }
 
@@ -55,7 +55,7 @@ closed around v = record { inner = take around v.outer; outer = drop around v.ou
 abbrev pub file_level : List scope.Binding → Visible
 file_level bs = record { inner = []; outer = bs }
 
--- file scope if no other scope is open, without the names of defined functions; and the same with these names
+-- file scope if no other scope is open: with these names of defined functions, or without such names
 abbrev pub file_with : Visible → List (List ℕ) → scope.FileScope
 file_with v defined = record { bindings = v.outer; defined = defined }
 

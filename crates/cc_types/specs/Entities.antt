@@ -1,4 +1,4 @@
--- What names denote in the code, as the definitions see it.
+-- What names denote in the code, in terms of the definitions.
 use Rattle.std.specs.Prelude.{ℕ, List, [], ◌∷◌, map, Option, Some, None}
 use Rattle.std.specs.Borrow.{Bor}
 use Rattle.cc_ast.specs.scalar.Scalar.TheVariants.{Int}

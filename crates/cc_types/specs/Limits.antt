@@ -81,7 +81,7 @@ object_name (Single x initial) = x
 object_name (Array x n values) = x
 object_name (Bytes x n values) = x
 
--- the object that exceeds the limit on words, if `taken` words come before it
+-- the first object that exceeds the limit on words, if `taken` words come before these objects
 abbrev pub word_excesses : ℕ → List Object → List RuleError
 word_excesses taken [] = []
 word_excesses taken (o ∷ rest) = if nat_lt most_words (taken + object_words o) then too_many (object_name o) ∷ [] else word_excesses (taken + object_words o) rest

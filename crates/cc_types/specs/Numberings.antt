@@ -12,7 +12,7 @@ numbered_in entries = map (λ (e : Bor (List ℕ) × ℕ). (e.0.now, e.1)) entri
 abbrev pub number_of_name : List (List ℕ × ℕ) → List ℕ → Option ℕ
 number_of_name names x = lookup (same_name x) names
 
--- two names have different numbers, and each number is less than the number of names
+-- no two names have the same number, and each number is less than how many names there are
 pub record AreNumbers (names : List (List ℕ × ℕ)) : Type 0 where
   pub one : (x y : List ℕ) (n : ℕ) → number_of_name names x ≡ Some n → number_of_name names y ≡ Some n → same_name x y ≡ true
   pub below : (x : List ℕ) (n : ℕ) → number_of_name names x ≡ Some n → n < length names

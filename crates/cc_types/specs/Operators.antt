@@ -26,7 +26,7 @@ working_type ShiftLeft t u = t
 working_type ShiftRight t u = t
 working_type op t u = common_type t u
 
--- the type of the value: relations, equality, && and || give int (6.5.8, 6.5.9, 6.5.13, 6.5.14)
+-- the type of a binary operator's value: relations, equality, && and || yield int (6.5.8, 6.5.9, 6.5.13, 6.5.14)
 abbrev pub binary_type : BinaryOperator → Scalar → Scalar → Scalar
 binary_type Less t u = Int
 binary_type Greater t u = Int
@@ -85,7 +85,7 @@ binary_word Or t a b = Some (or a b)
 binary_word LogicalAnd t a b = Some (truth_value (is_true a && is_true b))
 binary_word LogicalOr t a b = Some (truth_value (is_true a || is_true b))
 
--- the value if the left operand decides it by itself: then the right one is not evaluated (6.5.13, 6.5.14)
+-- the value, if the left operand alone decides it; then the right operand is not evaluated (6.5.13, 6.5.14)
 abbrev pub decided : BinaryOperator → ℕ → Option ℕ
 decided LogicalAnd a = if is_true a then None else Some 0
 decided LogicalOr a = if is_true a then Some 1 else None

@@ -1,6 +1,6 @@
--- The rules of scope and type, given by the places where a unit breaks them. Each part of the tree lists the rules that it
--- breaks, in its scope. The order in which a checker looks for errors is not part of this. After an error, the part is judged as
--- if its type were int. The numbers in parentheses are clauses of ISO/IEC 9899:1999.
+-- The rules of scope and type, given by the places where a unit breaks them. For each part of the tree there is a list of the
+-- rules that the part breaks in its scope. The order in which a checker looks for errors is left open. After an error, the part
+-- is judged as if its type were int. The numbers in parentheses are clauses of ISO/IEC 9899:1999.
 use Rattle.std.specs.Prelude.{ℕ, ◌+◌, Bool, true, false, ◌==◌, ◌||◌, ◌&&◌, not, List, [], ◌∷◌, ◌++◌, length, Option, Some, None, if◌then◌else◌, is_some, nat_lt, codes}
 use Rattle.cc_ast.specs.scalar.Scalar.{Scalar}
 use Rattle.cc_ast.specs.scalar.Scalar.TheVariants.{Int}
@@ -57,8 +57,7 @@ void_errors bs (Call f es) = elim (result_type (found bs f.text)) [ None ↦ bro
 void_errors bs (Parenthesised e) = void_errors bs e
 void_errors bs e = []
 
--- an expression that is evaluated, whether its value is used or not: every part but a pair of parentheses uses the values of its
--- parts (6.5)
+-- an expression that is evaluated, its value used or not: each part except a pair of parentheses uses its own parts' values (6.5)
 abbrev mutual
   pub expression_errors : List Binding → Expr → List RuleError
   expression_errors bs (Number t n) = []
@@ -115,7 +114,7 @@ abbrev pub beginning_errors : Beginning → Visible → List RuleError
 beginning_errors (Declares t ds) v = declared_errors t ds v
 beginning_errors (Performs a) v = optional_action_errors (in_scope v) a
 
--- a return statement: with a value in a function of type int or unsigned, without one in a void function (6.8.6.4)
+-- a return statement: with a value in a function of type int or unsigned, without a value in a void function (6.8.6.4)
 abbrev pub return_errors : Option Scalar → List Binding → ℕ → Option Expr → List RuleError
 return_errors None bs at None = []
 return_errors None bs at (Some e) = broken BadReturn at ++ value_errors bs e
@@ -127,7 +126,7 @@ pub record Around : Type 0 where
   pub result : Option Scalar
   pub in_loop : Bool
 
--- the same inside the body of a loop
+-- the surroundings inside the body of a loop
 abbrev pub within_loop : Around → Around
 within_loop a = record a { in_loop = true }
 
@@ -157,7 +156,7 @@ abbrev mutual
 
 -- ---- file scope
 
--- a constant expression has no names and no calls, and does not go wrong; an error is reported at its first token (6.6)
+-- a constant expression contains no names and no calls, and does not go wrong; an error is reported at its first token (6.6)
 abbrev pub constant_errors : List Binding → ConstantExpr → List RuleError
 constant_errors bs c = value_errors bs c.expr ++ broken_if (not (is_some (constant_word c))) WrongKind c.at
 
@@ -169,13 +168,12 @@ abbrev pub constants_errors : List Binding → List ConstantExpr → List RuleEr
 constants_errors bs [] = []
 constants_errors bs (c ∷ rest) = constant_errors bs c ++ constants_errors bs rest
 
--- an array has at least one element, and no fewer than its list has values (6.7.5.2, 6.7.8)
+-- an array has at least one element, and at least as many as its list has values (6.7.5.2, 6.7.8)
 abbrev pub length_errors : Option ℕ → ℕ → ℕ → List RuleError
 length_errors None given at = []
 length_errors (Some n) given at = broken_if (n == 0 || nat_lt n given) WrongCount at
 
--- an array that file scope does not have yet. Its length precedes the point at which its name comes into scope; the values of its
--- list follow it (6.2.1).
+-- an array: its name must be new at file scope, and is in scope in the array's values, but not in its length (6.2.1)
 abbrev pub named_array_errors : Scalar → Name → Option ConstantExpr → List ConstantExpr → FileScope → List RuleError
 named_array_errors t x n values f =
     broken_if (is_declared f.bindings x.text) Redeclared x.at
@@ -209,7 +207,7 @@ abbrev pub differs : Option Entity → Entity → Bool
 differs None e = false
 differs (Some old) e = not (same_entity old e)
 
--- the head of a function: another declaration of its name has the same types (6.7)
+-- the head of a function: any other declaration of its name must have the same types (6.7)
 abbrev pub signature_errors : Signature → FileScope → List RuleError
 signature_errors s f =
     broken_if (differs (found f.bindings s.name.text) (function_entity s)) Redeclared s.name.at
@@ -304,7 +302,7 @@ abbrev mutual
   called_in_statements end = []
   called_in_statements (next first rest) = called_in_statement first ++ called_in_statements rest
 
--- the calls in constant expressions; each of these breaks a rule already
+-- the calls in constant expressions; each such call breaks a rule already
 abbrev pub called_in_constant : ConstantExpr → List Name
 called_in_constant c = called_in c.expr
 

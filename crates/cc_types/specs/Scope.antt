@@ -6,7 +6,7 @@ use Rattle.cc_ast.specs.Tree.{Name, Declarator, Beginning, Declares, Performs, S
 use Rattle.cc_types.specs.Names.{same_name}
 
 -- what a name denotes: an object with one value (a variable, a parameter, a local); an array, with the type of its elements; or a
--- function, with the type of its result (None for void) and those of its parameters
+-- function, with the types of its result (None for void) and of its parameters
 pub data Entity : Type 0 where
   Variable : Scalar → Entity
   Elements : Scalar → Entity
@@ -17,7 +17,7 @@ pub record Binding : Type 0 where
   pub name : List ℕ
   pub entity : Entity
 
--- what the newest declaration of a name says it denotes, if there is one
+-- what a name denotes by its newest declaration, if there is one
 abbrev pub found : List Binding → List ℕ → Option Entity
 found [] x = None
 found (b ∷ behind) x = if same_name b.name x then Some b.entity else found behind x
@@ -48,7 +48,7 @@ abbrev pub all_declared : Scalar → List Declarator → Visible → Visible
 all_declared t [] v = v
 all_declared t (d ∷ rest) v = all_declared t rest (declared d.name.text (Variable t) v)
 
--- the scope after a statement: a declaration adds its names, every other statement leaves the scope as it is
+-- the scope after a statement: a declaration adds its names; any other statement leaves the scope as it is
 abbrev pub scope_behind : Stmt → Visible → Visible
 scope_behind (Local t ds) v = all_declared t ds v
 scope_behind s v = v
@@ -58,7 +58,7 @@ abbrev pub scope_behind_beginning : Beginning → Visible → Visible
 scope_behind_beginning (Declares t ds) v = all_declared t ds v
 scope_behind_beginning (Performs a) v = v
 
--- the scope after a parameter, which possibly has no name
+-- the scope after a parameter, which may have no name
 abbrev pub parameter_declared : Scalar → Option Name → Visible → Visible
 parameter_declared t None v = v
 parameter_declared t (Some x) v = declared x.text (Variable t) v
@@ -120,8 +120,7 @@ abbrev pub file_scope_behind_all : List External → FileScope → FileScope
 file_scope_behind_all [] f = f
 file_scope_behind_all (e ∷ rest) f = file_scope_behind_all rest (file_scope_behind e f)
 
--- the scope of a function's body before its first statement, given file scope before it: the parameters and the body's outermost
--- block are one scope
+-- the scope of a body before its first statement, given file scope: the parameters and the body's outermost block are one scope
 abbrev pub body_scope : Signature → FileScope → Visible
 body_scope s f = parameters_declared s.parameters (record { inner = []; outer = (with_function s f).bindings })
 
@@ -142,7 +141,7 @@ same_result None None = true
 same_result (Some t) (Some u) = same_scalar t u
 same_result r q = false
 
--- two functions with the same types
+-- both are functions, and they have the same types
 abbrev pub same_entity : Entity → Entity → Bool
 same_entity (Function r ts) (Function q us) = same_result r q && same_scalars ts us
 same_entity e f = false

@@ -22,11 +22,11 @@ IsWithinLimits externals = excesses externals ≡ []
 abbrev pub NotAfter : RuleError → RuleError → Type 0
 NotAfter o p = (o.at < p.at) ⊎ ((o.at ≡ p.at) × (rule_number o.rule ≤ rule_number p.rule))
 
--- the first of some errors
+-- the error is the first of these errors
 abbrev pub IsFirst : RuleError → List RuleError → Type 0
 IsFirst o all = Contains all o × AllByRecursion (NotAfter o) all
 
--- the fault is that of the first of some errors, at its token
+-- the fault is the one for the first of these errors, at that error's token
 abbrev pub IsFaultOfFirst : List ℕ → List RuleError → TypeFault → Type 0
 IsFaultOfFirst text all fault = (o : RuleError) × IsFirst o all × (fault ≡ fault_of o.rule (place_of text o.at))
 
@@ -34,8 +34,8 @@ IsFaultOfFirst text all fault = (o : RuleError) × IsFirst o all × (fault ≡ f
 abbrev pub all_errors : List External → List RuleError
 all_errors externals = errors externals ++ excesses externals
 
--- a unit is refused for the first of its errors; if it has none, for a missing main, at the end of the text; and if it has a
--- main, for the first call of a function that is not defined
+-- a unit is refused for the first of its errors; if it has no errors, for a missing main, at the end of the text; and if it has
+-- a main, for the first call of a function that is not defined
 abbrev pub IsTypeRefusal : Source → TypeFault → Type 0
 IsTypeRefusal s fault =
     IsFaultOfFirst s.text (all_errors s.externals) fault
@@ -47,11 +47,11 @@ abbrev pub IsTypeAnswer : Source → Option TypeFault → Type 0
 IsTypeAnswer s None = IsTyped s.externals × IsWithinLimits s.externals
 IsTypeAnswer s (Some fault) = IsTypeRefusal s fault
 
--- a unit has at most one such answer: two answers are the same fault at the same place, or both no fault
+-- `check` has at most one possible answer for a unit: two answers are the same fault at the same place, or both no fault
 abbrev pub TypeAnswersAreOne : Type 0
 TypeAnswersAreOne = (s : Source) (a b : Option TypeFault) → IsTypeAnswer s a → IsTypeAnswer s b → a ≡ b
 
--- every unit has such an answer
+-- `check` has a possible answer for every unit
 abbrev pub UnitsHaveTypeAnswers : Type 0
 UnitsHaveTypeAnswers = (s : Source) → (a : Option TypeFault) × IsTypeAnswer s a
 
@@ -59,7 +59,7 @@ UnitsHaveTypeAnswers = (s : Source) → (a : Option TypeFault) × IsTypeAnswer s
 abbrev pub defined_names : Source → List (List ℕ)
 defined_names s = map (λ (x : Name). x.text) (function_names s.externals)
 
--- the functions that a unit defines, in the same order
+-- the functions that a unit defines, in the order of their definitions
 abbrev pub definitions : List External → List External
 definitions [] = []
 definitions (Definition s body ∷ rest) = Definition s body ∷ definitions rest

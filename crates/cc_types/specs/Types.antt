@@ -50,7 +50,7 @@ target_type bs (AtElement x e) = element_type (found bs x.text)
 
 -- ---- constant expressions
 
--- an expression has no name and no call, not even in a part that is not evaluated
+-- an expression contains no name and no call, not even in a part that is not evaluated
 abbrev pub is_constant : Expr → Bool
 is_constant (Number t n) = true
 is_constant (tree.Variable x) = false
@@ -90,17 +90,17 @@ constant_value (Conditional c a b) = with_word (constant_value c) (λ w. if is_t
 abbrev pub constant_word : ConstantExpr → Option ℕ
 constant_word c = if is_constant c.expr then constant_value c.expr else None
 
--- how many elements a length gives: a length of type int that is below 0 gives none (6.7.5.2)
+-- how many elements an array of this length has: 0 if the length is of type int and below 0 (6.7.5.2)
 abbrev pub elements_of_word : Scalar → ℕ → ℕ
 elements_of_word Int w = if is_true (lt_s w 0) then 0 else w
 elements_of_word Unsigned w = w
 
--- how many elements an array has, if that is known: as many as its length says, or, without a length, as many as its list has
+-- how many elements an array has, if known: as many as its length says, or, if it has no length, as many as its list has
 abbrev pub array_length : Option ConstantExpr → List ConstantExpr → Option ℕ
 array_length None values = Some (length values)
 array_length (Some c) values = option_map (elements_of_word (value_type [] c.expr)) (constant_word c)
 
--- the same, with 0 if that is not known
+-- how many elements an array has, or 0 if the number is not known
 abbrev pub array_elements : Option ConstantExpr → List ConstantExpr → ℕ
 array_elements n values = unwrap_or (array_length n values) 0
 
@@ -116,13 +116,13 @@ object_width (Single x initial) = Word
 object_width (Array x n values) = Word
 object_width (Bytes x n values) = Byte
 
--- how many words an object takes: four bytes are one word, and a partly filled last word counts
+-- how many words an object occupies: four bytes are one word, and a partly filled last word counts
 abbrev pub object_words : Object → ℕ
 object_words o = words_of (object_width o) (object_elements o)
 
 -- ---- objects before the run
 
--- the word of an initialiser, or 0 without one (6.7.8)
+-- the word of an initialiser, or 0 if there is no initialiser (6.7.8)
 abbrev pub initial_word : Option ConstantExpr → ℕ
 initial_word None = 0
 initial_word (Some c) = unwrap_or (constant_word c) 0

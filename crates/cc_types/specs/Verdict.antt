@@ -12,7 +12,7 @@ pub data Verdict : Type 0 where
   NotTyped : TypeFault → Verdict
   Program : List External → Verdict
 
--- the source made of a text and a tree
+-- the source made from a text and a tree
 abbrev pub source_with : List ℕ → List External → Source
 source_with text tree = record { text = text; externals = tree }
 

@@ -1,7 +1,8 @@
 // The names in scope, with the newest binding of each.
 //
-// Each name has a number, and `newest` has the newest binding at each name's number. A binding keeps what was the newest binding
-// of its name before it. So a look-up is one search for the number and one step, and removing the newest binding needs no search.
+// Each name has a number, and `newest` has the newest binding at each name's number. A binding records which binding of its name
+// was the newest before it. So a look-up is one search for the number and one step, and removing the newest binding needs no
+// search.
 
 ghost use Rattle.std.specs.Prelude.{◌≡◌, [], ◌∷◌, ◌<◌, ◌^◌, length, drop, IfSome, IfOk, OnOk, OnErr, slice_index_or};
 ghost use Rattle.cc_types.specs.Scope.{found};
@@ -151,7 +152,7 @@ impl<'a> Bindings<'a> {
             return;
         };
         match hidden {
-            // The number is in the table already, so this takes no memory.
+            // The number is in the table already, so the insertion needs no memory.
             Some(place) => {
                 let _ = self.newest.insert(number, place);
             }

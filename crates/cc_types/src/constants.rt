@@ -37,7 +37,8 @@ fn unary_word(operator: UnaryOperator, word: u32) -> u32
     }
 }
 
-/// The word that a binary operator gives for the working type, or `None` if C leaves it undefined.
+/// The word that a binary operator yields in the working type, or `None` if the operator has no value for
+/// these words.
 pub fn binary_word(operator: BinaryOperator, working: Scalar, a: u32, b: u32) -> Option<u32>
     ensures { result ≡ binary_word operator working a b }
 {
@@ -106,7 +107,7 @@ pub fn constant_value(tree: &Expression) -> Option<u32>
     }
 }
 
-/// Whether an expression has no name and no call.
+/// Whether an expression contains no name and no call.
 pub fn is_constant(tree: &Expression) -> bool
     ensures { result ≡ is_constant (expression_tree tree.now) }
 {

@@ -19,8 +19,8 @@ pub enum TypeFault {
     #[error("Redeclared")]
     Redeclared(Place),
     /// 13: an object that is called (C99 6.5.2.2), a function or an array used as a value, or something indexed that is not an
-    /// array (6.5.2.1), at the name; or a constant expression that has a name or a call, or that goes wrong (6.6), at its first
-    /// token.
+    /// array (6.5.2.1), at the name; or a constant expression that contains a name or a call, or that goes wrong (6.6), at its
+    /// first token.
     #[error("WrongKind")]
     WrongKind(Place),
     /// 14: a wrong number of arguments (C99 6.5.2.2), at the function's name; or an array whose length is below 1 (6.7.5.2),
@@ -30,7 +30,8 @@ pub enum TypeFault {
     /// 15: the value of a `void` call is used (C99 6.3.2.2), at the function's name.
     #[error("VoidValue")]
     VoidValue(Place),
-    /// 16: a `return` with a value in a `void` function, or without one in any other (C99 6.8.6.4), at the keyword `return`.
+    /// 16: a `return` with a value in a `void` function, or without a value in any other function (C99 6.8.6.4), at the keyword
+    /// `return`.
     #[error("BadReturn")]
     BadReturn(Place),
     /// 17: an array without an index, or a function, as the target of an assignment (C99 6.5.16), at the name.

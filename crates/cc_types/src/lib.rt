@@ -1,8 +1,8 @@
-//! What a typed unit is, and what is computed over one more than once: the names in scope, the types in which operators work, the
-//! words of constants and objects, and how many locals a body declares. The check that decides whether a unit is typed is in
-//! `cc_typing`, which is above this crate. So a crate that only takes typed units does not wait for the check's proof.
+//! What a typed unit is, and what more than one walk over a typed unit computes: the names in scope, the types in which operators
+//! work, the words of constants and objects, and how many locals a body declares. The check that decides whether a unit is typed
+//! is in `cc_typing`, which is above this crate. So a crate that only uses typed units does not wait for the check's proof.
 //!
-//! - `typed`: the type, which guarantees that no rule is broken and no limit exceeded.
+//! - `typed`: the type of typed units, which guarantees that no rule is broken and no limit exceeded.
 //! - `rule`: the names of the rules.
 //! - `fault`: why a unit is refused.
 //! - `scope`, on `bindings`, `numbering` and `entity`: the names in scope.

@@ -23,7 +23,8 @@ pub const MOST_FUNCTIONS: usize = 64;
 /// All objects at file scope together have at most this many words.
 pub const MOST_WORDS: usize = 65536;
 
-/// How many names are allowed (`most`), how many have been counted, up to that number, and the offset of the first name past it.
+/// How many names are allowed (`most`), how many have been counted, up to `most`, and the offset of the first name past that
+/// number.
 #[derive(Clone, Copy)]
 pub struct Count {
     pub most: usize,
@@ -136,7 +137,7 @@ pub fn object_elements(object: &Object) -> usize
     }
 }
 
-/// How many words an object takes: 0 if its length is not known.
+/// How many words an object occupies: 0 if its length is not known.
 pub fn object_words(object: &Object) -> usize
     ensures { result ≡ object_words (object_tree object.now) }
 {
@@ -149,7 +150,7 @@ pub fn object_words(object: &Object) -> usize
     }
 }
 
-// How many elements an array has: 0 if that is not known.
+// How many elements an array has: 0 if the number is not known.
 fn array_elements(length: &Option<ConstantExpression>, values: &[ConstantExpression]) -> usize
     ensures { result ≡ array_elements (optional_constant length.now) (constant_trees values.now) }
 {

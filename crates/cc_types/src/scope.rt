@@ -55,7 +55,7 @@ fn is_from(binding: Option<Newest<'_>>, first: usize) -> bool
 }
 
 impl<'a> Scope<'a> {
-    /// Returns file scope at the start of a text: it has the builtins. `AllocError` if memory runs out.
+    /// Returns file scope at the start of a text, which contains the builtins. `AllocError` if memory runs out.
     pub fn new(alloc: Global) -> Result<Scope<'a>, AllocError>
         ensures { IfOk result (λ s. s ≡ file_level first_file_scope.bindings) }
     {

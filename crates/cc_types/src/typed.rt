@@ -70,7 +70,8 @@ fn definition_in(external: &External) -> Option<Definition<'_>>
 }
 
 impl TypedUnit {
-    /// Makes a typed unit of a parsed one. The caller shows that it breaks no rule and exceeds no limit. Takes no memory.
+    /// Makes a typed unit from a parsed one. The caller must show that the parsed unit breaks no rule and exceeds no
+    /// limit. Takes no memory.
     pub fn new(unit: Unit) -> TypedUnit
         requires { IsChecked (source unit) }
         ensures { result ≡ unit }

@@ -169,7 +169,7 @@ unfolding Verdicts
 by_tree text (Err f, h) = (NoTree f, h)
 by_tree text (Ok tree, h) = by_types text tree h (units_have_type_answers (source_with text tree))
 
--- if `parse` has an answer for every text, every text has an answer here
+-- if `parse` has an answer for every text, every text has a verdict
 pub texts_have_verdicts : TextsHaveAnswers → TextsHaveVerdicts
 unfolding Verdicts
 texts_have_verdicts texts_have_answers text = by_tree text (texts_have_answers text)

@@ -1,4 +1,4 @@
--- The offset that is kept is the one at which the limit is exceeded.
+-- The offset that a count records is the one at which the limit is exceeded.
 use Rattle.std.proofs.Common.{◌≡◌, ℕ, zero, suc, ◌+◌, Bool, true, false, if◌then◌else◌, nat_lt, List, [], ◌∷◌, ◌++◌, map, take, drop, Option, Some, None, refl, sym, ap, subst, ◌∙◌, arith}
 use Rattle.std.proofs.lemmas.Bool.Decides.{nat_tests}
 use Rattle.cc_ast.specs.Tree.{Name, Object}
@@ -15,7 +15,8 @@ passed-once most at (x ∷ xs) =
     let full : nat_lt most most ≡ false = grind (arith, nat_tests) in
     ap (λ b. if b then passed most (most + 1) (Some at) xs else passed most most (Some at) xs) full ∙ passed-once most at xs
 
--- if some were counted already, the limit is exceeded at the first of the rest for which there is no room left
+-- if `n` names are counted already and `left` more are allowed, the limit is exceeded at the first name after
+-- those, if there is one
 passed-left : (most left n : ℕ) (xs : List Name) → left + n ≡ most → excess_of (passed most n None xs) ≡ map too_many (take 1 (drop left xs))
 passed-left most zero n [] e = refl
 passed-left most zero n (x ∷ xs) e =

@@ -1,4 +1,4 @@
--- The walk over file scope.
+-- What the walk over file scope finds.
 use Rattle.std.proofs.Common.{◌≡◌, ℕ, Bool, true, false, List, [], ◌∷◌, ◌++◌, length, Option, Some, None, refl, sym, ap, ◌∙◌}
 use Rattle.std.specs.Prelude.{not, is_some}
 use Rattle.cc_ast.specs.scalar.Scalar.{Scalar}
@@ -28,7 +28,8 @@ length-is (Some n) given at = refl
 
 -- ---- objects
 
--- after some names in a declaration of objects, what was done and what is left make up the whole
+-- after some names in a declaration of objects, what was found and what is left to find are together what the
+-- whole declaration yields
 pub record Objecting (t : Scalar) (v0 : Visible) (f0 : Found) (all : List Object) (v : Visible) (f : Found) (rest : List Object) : Type 0 where
   pub inner : v.inner ≡ []
   pub scope : (with_objects t rest (file_of v)).bindings ≡ (with_objects t all (file_of v0)).bindings
@@ -102,7 +103,7 @@ defined-behind (Objects t os) g = with_objects-defined t os g
 abbrev pub apart : Found → Found
 apart f = record f { functions = record { defined = f.functions.defined; before = [] } }
 
--- after some external declarations, what was done and what is left make up the whole
+-- what is found in the external declarations that are left, added to what was found before them
 abbrev pub in_all : Visible → Found → List External → Found
 in_all v f es = after (apart f) (externals_errors es (file_with v f.functions.before)) (called es)
 
@@ -143,7 +144,7 @@ module _ (v : Visible) (names : List (List ℕ)) (e : External) where
       eu ∙ ap file_level (ez ∙ ap (λ (x : Visible). x.outer) ew ∙ parameters_declared-outer s.parameters (file_level (with_function s (file_of v)).bindings))
       ∙ sym (ap (λ x. file_level (file_scope_behind x (file_with v names)).bindings) is)
 
-  -- this is what is found in the external declaration
+  -- `g` is what has been found after the external declaration, if `f` was found before it
   abbrev IsFound : Found → Found → Type 0
   IsFound f g = g ≡ after (with_before f (defined_in e)) (external_errors e (file_with v names)) (called_in_external e)
 

@@ -1,4 +1,4 @@
--- The error that is kept is the first of all errors.
+-- The error that is recorded is the first of all errors.
 use Rattle.std.proofs.Common.{◌≡◌, ℕ, ◌<◌, ◌≤◌, ◌⊎◌, inl, inr, Bool, true, false, ◌&&◌, ◌||◌, ◌==◌, if◌then◌else◌, nat_lt, List, [], ◌∷◌, Some, None, Contains, refl, sym, subst, ◌∙◌, arith}
 use Rattle.std.specs.List.{AllByRecursion}
 use Rattle.std.proofs.lemmas.Bool.Decides.{nat_tests}
@@ -8,7 +8,7 @@ use Rattle.cc_types.specs.Typed.{NotAfter, IsFirst}
 use Rattle.cc_typing.specs.internal.Findings.{is_before, earlier, noted}
 use Rattle.cc_types.specs.declared.rule.RuleError.{RuleError}
 
--- the order of errors, in numbers
+-- the test for the order of errors decides how their offsets and numbers are related
 order-true : (a b m n : ℕ) → (nat_lt a b || (a == b && nat_lt m n)) ≡ true → (a < b) ⊎ ((a ≡ b) × (m ≤ n))
 order-true a b m n h = grind (arith, nat_tests)
 
@@ -45,7 +45,7 @@ earlier-either p x = by (is_before x p)
 contains-first : (x : RuleError) (xs : List RuleError) (o : RuleError) → o ≡ x → Contains (x ∷ xs) o
 contains-first x xs o e = (0, omega arith, sym e)
 
--- if an error and then some more are noted, the first of them all is kept
+-- if an error is recorded and then some more, the first of them all is kept
 noted-first : (p : RuleError) (xs : List RuleError) (o : RuleError) → noted (Some p) xs ≡ Some o → ((o ≡ p) ⊎ Contains xs o) × NotAfter o p × AllByRecursion (NotAfter o) xs
 noted-first p [] o e = let same : o ≡ p = cc in (inl same, subst (λ q. NotAfter q p) (sym same) (not_after-itself p), tt)
 noted-first p (x ∷ xs) o e =

@@ -1,4 +1,4 @@
--- What is found in one part, and then in the next, is what is found in both together.
+-- What is found in one part and then in the next is what is found in both together.
 use Rattle.std.proofs.Common.{◌≡◌, ℕ, true, false, List, [], ◌∷◌, ◌++◌, Option, Some, refl, sym, ap, ◌∙◌, append_assoc}
 use Rattle.cc_ast.specs.Tree.{Name}
 use Rattle.cc_types.specs.Rules.{undefined_among, broken_if}
@@ -29,24 +29,24 @@ after_nothing f = refl
 pub after_after : (f : Found) (xs ys : List RuleError) (cs ds : List Name) → after (after f xs cs) ys ds ≡ after f (xs ++ ys) (cs ++ ds)
 after_after f xs ys cs ds i = record { first = noted-append f.first xs ys i; undefined = noted_calls f.undefined f.functions.defined cs ds i; functions = f.functions }
 
--- an error that is noted after a part adds to what the part found
+-- an error that is recorded after a part adds to what was found in the part
 pub after_noted : (f : Found) (xs ys : List RuleError) (cs : List Name) → after (after f xs cs) ys [] ≡ after f (xs ++ ys) cs
 after_noted f xs ys cs i = record { first = noted-append f.first xs ys i; undefined = noted f.undefined (undefined_among f.functions.defined cs); functions = f.functions }
 
--- two parts, one after the other
+-- what is found in one part and then in another is what is found in both together
 pub two : (f g h : Found) (xs ys os : List RuleError) (cs ds es : List Name) → g ≡ after f xs cs → h ≡ after g ys ds → os ≡ xs ++ ys → es ≡ cs ++ ds → h ≡ after f os es
 two f g h xs ys os cs ds es eg eh eo ee = eh ∙ ap (λ k. after k ys ds) eg ∙ after_after f xs ys cs ds ∙ sym (ap (λ l. after f l (cs ++ ds)) eo) ∙ sym (ap (after f os) ee)
 
--- what is found in the first item of a list leaves the rest to be found
+-- once the first item of a list is checked, what the rest adds completes what is found in the whole list
 pub next : (f g whole : Found) (xs ys os : List RuleError) (cs ds es : List Name) → after f os es ≡ whole → os ≡ xs ++ ys → es ≡ cs ++ ds → g ≡ after f xs cs → after g ys ds ≡ whole
 next f g whole xs ys os cs ds es before eo ee eg =
     ap (λ k. after k ys ds) eg ∙ after_after f xs ys cs ds ∙ sym (ap (λ l. after f l (cs ++ ds)) eo) ∙ sym (ap (after f os) ee) ∙ before
 
--- after the list nothing is left
+-- if nothing is left of the list, what has been found is what is found in the whole list
 pub last : (f whole : Found) (os : List RuleError) (es : List Name) → after f os es ≡ whole → os ≡ [] → es ≡ [] → f ≡ whole
 last f whole os es before eo ee = sym (after_nothing f) ∙ sym (ap (λ l. after f l []) eo) ∙ sym (ap (after f os) ee) ∙ before
 
--- what noting an error or a call does
+-- recording an error, or a call, adds just that one to what was found
 pub noted_one : (f : Found) (o : RuleError) → record f { first = Some (earlier f.first o) } ≡ after f (o ∷ []) []
 noted_one f o = refl
 
@@ -57,7 +57,7 @@ called_undefined f x e = sym (ap (λ b. record f { undefined = noted f.undefined
 pub called_defined : (f : Found) (x : Name) → has_name f.functions.defined x.text ≡ true → f ≡ after f [] (x ∷ [])
 called_defined f x e = sym (ap (λ b. record f { undefined = noted f.undefined (broken_if (not b) Undefined x.at ++ []) }) e)
 
--- three parts, one after another
+-- what is found in three parts, one after another, is what is found in all three together
 pub three : (f g h k : Found) (xs ys zs os : List RuleError) (cs ds es all : List Name) → g ≡ after f xs cs → h ≡ after g ys ds → k ≡ after h zs es → os ≡ xs ++ (ys ++ zs) → all ≡ cs ++ (ds ++ es) → k ≡ after f os all
 three f g h k xs ys zs os cs ds es all eg eh ek eo ee =
     two f g k xs (ys ++ zs) os cs (ds ++ es) all eg (two g h k ys zs (ys ++ zs) ds es (ds ++ es) eh ek refl refl) eo ee

@@ -19,7 +19,7 @@ use Rattle.cc_typing.proofs.First.{IsFirst-noted, noted-none}
 use Rattle.cc_typing.proofs.FileScopes.{defined-behind}
 use Rattle.cc_typing.proofs.Parts.{noted-append}
 
--- if two parts together have no errors, neither part has one
+-- if two lists together are empty, each of them is empty
 pub both_empty : {A : Type 0} (xs ys : List A) → xs ++ ys ≡ [] → (xs ≡ []) × (ys ≡ [])
 both_empty [] ys e = (refl, e)
 both_empty (x ∷ xs) ys e = absurd (let c : ⊥ = cc in c)

@@ -1,4 +1,4 @@
--- The walk over statements, part by part.
+-- What the walk over statements finds, part by part.
 use Rattle.std.proofs.Common.{◌≡◌, ℕ, ◌+◌, ◌≤◌, List, [], ◌∷◌, ◌++◌, length, length-append, take, drop, Option, Some, None, refl, sym, ap, ◌∙◌, append_assoc, arith}
 use Rattle.std.proofs.Math.Seq.{take-append_seam, drop-append_seam}
 use Rattle.cc_ast.specs.scalar.Scalar.{Scalar}
@@ -52,7 +52,8 @@ closed-is s v w around e n ew = ew ∙ ap (λ k. closed k v) n ∙ closed_opened
 
 -- ---- declarations
 
--- after some names in a declaration, what was done and what is left make up the whole
+-- after some names in a declaration, what was found and what is left to find are together what the whole
+-- declaration yields
 pub record Declaring (t : Scalar) (v0 : Visible) (f0 : Found) (all : List Declarator) (v : Visible) (f : Found) (rest : List Declarator) : Type 0 where
   pub scope : all_declared t rest v ≡ all_declared t all v0
   pub found : after f (declared_errors t rest v) (called_in_declared rest) ≡ after f0 (declared_errors t all v0) (called_in_declared all)
@@ -73,14 +74,14 @@ Declaring-next t v0 f0 all v f d rest v' f' before es ef = record {
 
 -- ---- statements
 
--- the errors of a return, as the code finds them
+-- the code finds exactly the errors of a return
 pub return-is : (r : Option Scalar) (bs : List Binding) (at : ℕ) (e : Option Expr) → return_errors r bs at e ≡ broken_if (is_bad_return r e) BadReturn at ++ optional_errors bs e
 return-is None bs at None = refl
 return-is None bs at (Some e) = refl
 return-is (Some t) bs at None = refl
 return-is (Some t) bs at (Some e) = refl
 
--- four parts, one after another
+-- what is found in four parts, one after another, is what is found in all four together
 four : (f g h k m : Found) (xs ys zs ws os : List RuleError) (cs ds es gs all : List tree.Name) → g ≡ after f xs cs → h ≡ after g ys ds → k ≡ after h zs es → m ≡ after k ws gs
     → os ≡ xs ++ (ys ++ (zs ++ ws)) → all ≡ cs ++ (ds ++ (es ++ gs)) → m ≡ after f os all
 four f g h k m xs ys zs ws os cs ds es gs all eg eh ek em eo ee =
@@ -124,7 +125,8 @@ module _ (a : Around) (v : Visible) (t : Stmt) (f : Found) where
       two f g h (looped body) (tested c) _ (called_in_statement body) (called_in c) _ (eg ∙ ap (λ u. after f (statement_errors body u (opened v)) (called_in_statement body)) ew) eh
       (ap (λ u. statement_errors u a v) is ∙ ap (λ u. looped u ++ tested c) (sym eb)) (ap called_in_statement is ∙ ap (λ u. called_in_statement u ++ called_in c) (sym eb))
 
-  -- what is found in a `for`; u is the scope that its header opens, and n the scope after the header's first part
+  -- what is found in the parts of a `for`, one after another, is what is found in the whole `for`; `u` is the
+  -- scope that its header opens, and `n` the scope after the header's first part
   pub for-found : (w : Around) → w ≡ within_loop a → (u n : Visible) → u ≡ opened v → (g h k m : Found) (start : Beginning) (c : Option Expr) (behind : Option Action) (b body : Stmt)
       → t ≡ For start c behind b → body ≡ b → n ≡ scope_behind_beginning start u
       → g ≡ after f (beginning_errors start u) (called_in_beginning start) → h ≡ after g (optional_errors (in_scope n) c) (called_in_optional c)
@@ -141,7 +143,8 @@ module _ (a : Around) (v : Visible) (t : Stmt) (f : Found) where
       ∙ ap (λ q. beginning_errors start u ++ (optional_errors (in_scope n) c ++ (optional_action_errors (in_scope n) behind ++ statement_errors body q (opened n)))) (sym ew))
       (ap called_in_statement is ∙ ap (λ q. called_in_beginning start ++ (called_in_optional c ++ (called_in_optional_action behind ++ called_in_statement q))) (sym eb))
 
--- after some statements of a list, what was done and what is left make up the whole
+-- after some statements of a list, what was found and what is left to find are together what the whole list
+-- yields
 pub record Walking (a : Around) (v0 : Visible) (f0 : Found) (all : Stmts) (v : Visible) (f : Found) (rest : Stmts) : Type 0 where
   pub outer : v.outer ≡ v0.outer
   pub found : after f (statements_errors rest a v) (called_in_statements rest) ≡ after f0 (statements_errors all a v0) (called_in_statements all)

@@ -1,5 +1,5 @@
 -- Definitions that only private contracts and proofs use.
--- how the code keeps which functions are defined
+-- how the code stores which functions are defined
 pub mod Functions
 -- what the code has found so far
 pub mod Findings

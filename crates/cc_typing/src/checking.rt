@@ -24,10 +24,10 @@ const MAIN: &[u8] = b"main";
 
 /// Checks the rules of scope and type (C99 6.2.1, 6.5 to 6.9) and the limits.
 ///
-/// Refuses with one of the faults 11 to 18 and 21: the one at the earliest token, and if there are several at that token, the
-/// one with the least number. If there is none of these, a unit without `main` is refused with 19 (NoMain), at the end of the
-/// text, and otherwise with 20 (Undefined) at the first call of a function that is not defined, if there is one. Refuses with
-/// 40 (OutOfMemory) if memory runs out. An `Err` drops the unit.
+/// Refuses with one of the faults 11 to 18 and 21 (`TypeFault` names them): the one at the earliest token, and if there are
+/// several at that token, the one with the least number. If there is none of these, a unit without `main` is refused with 19
+/// (NoMain), at the end of the text. A unit with `main` is then refused with 20 (Undefined) at the first call of a function
+/// that is not defined, if there is one. Refuses with 40 (OutOfMemory) if memory runs out. An `Err` drops the unit.
 pub fn check(alloc: Global, unit: Unit) -> Result<TypedUnit, TypeFault>
     ensures answer { IfOk result (λ t. t ≡ unit) }
     ensures typed { OnOk result (IsTyped (source unit).externals) }
@@ -80,7 +80,7 @@ fn first_errors(alloc: Global, externals: &[External]) -> Result<FirstErrors, Al
     Ok(found)
 }
 
-// Adds the builtins, which count as defined before a text begins.
+// Adds the builtins, which count as defined before the text begins.
 fn add_builtins(functions: &mut Functions<'_>) -> Result<(), AllocError>
     requires { functions.old ≡ record { defined = []; before = [] } }
     ensures { OnOk result (functions.new ≡ record { defined = first_file_scope.defined; before = first_file_scope.defined }) }
@@ -123,7 +123,7 @@ fn add_functions<'a>(
     define_all(functions, externals)
 }
 
-// The functions that a unit defines. At first only the builtins count as defined before.
+// The functions that a unit defines. At the beginning of the unit, only the builtins count as already defined.
 fn definitions<'a>(alloc: Global, externals: &'a [External]) -> Result<Functions<'a>, AllocError>
     ensures { IfOk result (λ r. r ≡ record { defined = all_defined (external_trees externals.now) first_file_scope.defined; before = first_file_scope.defined }) }
 {
@@ -185,8 +185,8 @@ fn place_in(text: &[u8], at: usize) -> Place
     place_at(text, at.min(text.len()))
 }
 
-/// Shows that, if memory suffices, only the unit determines what `check` returns: each unit is typed and within the limits, or
-/// has one fault with one number and one place, and never both.
+/// Shows that, if memory suffices, the unit alone determines what `check` returns: each unit is typed and within the limits,
+/// or has one fault with one number and one place, but never both.
 pub fn check_is_determined()
     ensures one { TypeAnswersAreOne }
     ensures some { UnitsHaveTypeAnswers }

@@ -175,7 +175,7 @@ fn signature<'a>(
     parameters(scope, findings, tree.parameters.as_slice())
 }
 
-// Checks an external declaration. `findings` has the functions that are defined before this one.
+// Checks an external declaration. `findings` contains the functions that are defined before this declaration.
 fn external<'a>(
     scope: &mut Scope<'a>,
     findings: &mut Findings<'a>,

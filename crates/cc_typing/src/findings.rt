@@ -63,7 +63,7 @@ impl<'a> Model for Findings<'a> {
 }
 
 impl<'a> Findings<'a> {
-    /// Nothing has been found yet, in a unit that defines these functions.
+    /// Returns findings in which nothing has been found yet, in a unit that defines these functions.
     pub fn new(functions: Functions<'a>) -> Findings<'a>
         ensures { result ≡ nothing_found functions.entry }
     {
@@ -74,14 +74,14 @@ impl<'a> Findings<'a> {
         }
     }
 
-    /// Notes that a rule is broken at the token with this offset.
+    /// Records that a rule is broken at the token with this offset.
     pub fn note(&mut self, rule: Rule, at: usize)
         ensures { self.new ≡ after self.old (broken rule at) [] }
     {
         self.first = Some(earlier(self.first, RuleError { rule, at }));
     }
 
-    /// Notes that a rule is broken at the token with this offset, if `holds` is true.
+    /// Records that a rule is broken at the token with this offset, if `holds` is true.
     pub fn note_if(&mut self, holds: bool, rule: Rule, at: usize)
         ensures { self.new ≡ after self.old (broken_if holds rule at) [] }
     {
@@ -90,7 +90,7 @@ impl<'a> Findings<'a> {
         }
     }
 
-    /// Notes that a function is called.
+    /// Records that a function is called.
     pub fn note_call(&mut self, name: &Identifier)
         ensures { self.new ≡ after self.old [] (name_tree name.now ∷ []) }
     {
@@ -110,7 +110,7 @@ impl<'a> Findings<'a> {
         self.functions.stands_before(name)
     }
 
-    /// Notes that a function of this name has now been defined.
+    /// Records that a function of this name has now been defined.
     pub fn mark_before(&mut self, name: &'a [u8]) -> Result<(), AllocError>
         ensures { OnOk result (self.new ≡ with_before self.old (name.now ∷ [])) }
     {

@@ -1,6 +1,7 @@
 // Which functions a unit defines, and which of them are defined before a given place.
 //
-// A function's name gets a number when it first appears, and a table has, at that number, what is known about the function.
+// A function's name gets a number when it first appears, and at that number a table contains what is known about the
+// function.
 
 ghost use Rattle.std.specs.Prelude.{◌≡◌, [], ◌∷◌, OnOk};
 ghost use Rattle.cc_types.specs.Scope.{has_name};
@@ -94,7 +95,7 @@ impl<'a> Functions<'a> {
         stands_before(self.state(name))
     }
 
-    /// Notes that the unit defines a function of this name.
+    /// Records that the unit defines a function of this name.
     pub fn define(&mut self, name: &'a [u8]) -> Result<(), AllocError>
         ensures { OnOk result (self.new ≡ record self.old { defined = name.now ∷ self.old.defined }) }
     {
@@ -113,7 +114,7 @@ impl<'a> Functions<'a> {
         }
     }
 
-    /// Notes that a function of this name has now been defined.
+    /// Records that a function of this name has now been defined.
     pub fn mark_before(&mut self, name: &'a [u8]) -> Result<(), AllocError>
         ensures { OnOk result (self.new ≡ record self.old { before = name.now ∷ self.old.before }) }
     {

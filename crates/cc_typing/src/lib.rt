@@ -1,12 +1,12 @@
 //! The check of the C profile's rules of scope and type, and of its limits: whether a parsed unit is typed, and which rule it
 //! breaks or which limit it exceeds first.
 //!
-//! `check` makes a `TypedUnit` of a parsed unit (`checking`). One walk visits file scope (`externals`), `statements` and
-//! `expressions`, with the names in scope. It keeps the functions that are defined (`functions`), what surrounds a statement
-//! (`around`), and the first errors (`findings`). `limits` counts what has a limit.
+//! `check` makes a `TypedUnit` from a parsed unit (`checking`). One walk visits file scope (`externals`), `statements` and
+//! `expressions`, with the names in scope. The walk records which functions are defined (`functions`), what surrounds a
+//! statement (`around`), and the first errors (`findings`). `limits` counts what has a limit.
 //!
-//! The types, the names in scope and the definitions of the rules are in `cc_types`. The crate re-exports those that a caller of
-//! `check`, or a walk over a typed unit, needs.
+//! The types, the names in scope and the definitions of the rules are in `cc_types`. The crate re-exports the items that a
+//! caller of `check`, or a walk over a typed unit, needs.
 #![tactic(auto)]
 
 mod around;

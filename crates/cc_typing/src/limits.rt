@@ -1,4 +1,4 @@
-// The limits that a unit exceeds: those on the parameters of a function, on its locals, on functions, and on the words of all
+// The limits that a unit exceeds: on the parameters of a function, on its locals, on functions, and on the words of all
 // objects.
 
 ghost use Rattle.std.specs.Prelude.{◌≡◌, None};
@@ -16,7 +16,8 @@ use cc_types::{
     object_words,
 };
 
-// The earlier of two errors: `first`, if there is one, and that of a limit exceeded at the offset `past`, if there is one.
+// The earlier of two errors: `first`, if there is one, and the one for the limit exceeded at the offset `past`, if there is
+// such an offset.
 fn with_excess(first: Option<RuleError>, past: Option<usize>) -> Option<RuleError>
     ensures { result ≡ noted first (excess_of past) }
 {
@@ -34,7 +35,7 @@ fn with_excess(first: Option<RuleError>, past: Option<usize>) -> Option<RuleErro
 
 // ---- words
 
-// The words of the objects so far, and the offset of the object that exceeded the limit on them.
+// How many words the objects so far have, and the offset of the object that exceeded the limit on words.
 #[derive(Drop)]
 struct Words {
     taken: usize,
@@ -149,7 +150,7 @@ fn past_words(externals: &[External]) -> Option<usize>
     words.past
 }
 
-/// The earliest of these errors: `first`, if there is one, and those of the limits that a unit exceeds.
+/// The earliest of these errors: `first`, if there is one, and the ones for the limits that the unit exceeds.
 pub fn with_excesses(first: Option<RuleError>, externals: &[External]) -> Option<RuleError>
     ensures { result ≡ noted first (excesses (external_trees externals.now)) }
 {

@@ -91,7 +91,7 @@ fn returned(
     optional_value(scope, findings, tree);
 }
 
-// Checks a statement that is a scope of its own.
+// Checks a statement that has its own scope.
 #[cycle(statements)]
 fn inner_statement<'a>(
     scope: &mut Scope<'a>,

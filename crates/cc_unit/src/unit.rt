@@ -61,7 +61,7 @@ impl Source {
 
 /// The certificate of a unit: any bytes, as many as fit in memory. A clause sees their list.
 ///
-/// Nothing here says what they mean: the store keeps them, and does not look at them.
+/// Nothing here says what these bytes mean: the store keeps them and does not look at them.
 pub struct Certificate {
     bytes: Vec<u8>,
 }

@@ -51,7 +51,8 @@ with_more more es fs gs e h i = record {
 pub with_none : (es : List Equation) → AreWith [] es es
 with_none es = record { more_in = λ x k. absurd (none_in x k); kept = λ x k. k; only = λ x k. inr k }
 
--- the equations of arguments, with one more argument
+-- the equations of arguments with one more at the end are those of the arguments, followed by the one of the
+-- last
 pub in_order_more : (place : ℕ) (arguments : List ℕ) (a : ℕ) → in_order place (arguments ++ a ∷ []) ≡ in_order place arguments ++ equation a (Register (place + length arguments)) ∷ []
 in_order_more place [] a = ap (λ n. equation a (Register n) ∷ []) (let e : place ≡ place + 0 = omega arith in e)
 in_order_more place (x ∷ rest) a =
@@ -305,7 +306,8 @@ module _ (old new : Table) (to from : ℕ) (source_fits : to < 2 ^ 32) (fits : f
   abbrev pub renamed : Equation → Equation
   renamed e = equation (if to == e.register then from else e.register) e.location
 
-  -- the bits of the register that now has the old one's, and of any other
+  -- the register that replaces the other one has the bits of both; then, any other register keeps its bits
+  -- unless it is the replaced one
   gets : (r c : ℕ) → from ≡ r → has new r c ≡ (has old from c || has old to c)
   gets r c same = h r c ∙ ap (λ b. if b then has old from c || has old to c else has old r c && not (to == r)) (eq-eqb from r same)
 

@@ -20,7 +20,7 @@ use Rattle.cc_validate.proofs.Carried.{same_number, same_test, number_below}
 
 -- ---- the table
 
--- through one more move at the end
+-- to carry back through moves with one more at the end is to carry through that one first
 before_more : (moves : List Move) (m : Move) (e : Equation) → before_moves (moves ++ m ∷ []) e ≡ before_moves moves (before_move m e)
 before_more [] m e = refl
 before_more (x ∷ moves) m e = ap (before_move x) (before_more moves m e)
@@ -48,7 +48,7 @@ module _ (moves : List Move) (origins : List ℕ) (m : Move) (to : IsPlace (targ
   abbrev next : List ℕ
   next = set origins (number (target m)) (get_or origins (number (source m)) 0)
 
-  -- the table's entry for a location is now its old entry for the location that the move replaces it by
+  -- the new entry of a location is the old entry of the location that an equation on it has before the move
   said : (e : Equation) → IsPlace e.location → IsPlace (before_move m e).location × (get_or next (number e.location) 0 ≡ get_or origins (number (before_move m e).location) 0)
   said e h = go (same_location (target m) e.location) refl
     where
@@ -83,14 +83,14 @@ origins_low moves origins are c = elim (cases_lt c (length origins)) [
 
 -- ---- the bits
 
--- the same bits, described by an equivalent test
+-- `AreSent` also holds for an equivalent description of the bits
 pub sent_as : (some same : (r c : ℕ) → Type 0) (origins : List ℕ) (new : Table) → ((r c : ℕ) → same r c → some r c) → ((r c : ℕ) → some r c → same r c) → AreSent some origins new → AreSent same origins new
 sent_as some same origins new to from h = record {
   there = λ r c i. h.there r c (to r c i);
   only = λ r p i. (let o = h.only r p i in (o.0, from r o.0 o.1, o.2));
 }
 
--- one more bit
+-- `AreSent` holds after one more bit is set
 pub sent_more : (from : (r c : ℕ) → Type 0) (origins : List ℕ) (old new : Table) (r c : ℕ) → AreSent from origins old
     → ((i j : ℕ) → has new i j ≡ ((r == i && get_or origins c 0 == j) || has old i j)) → AreSent (λ i k. from i k ⊎ ((i ≡ r) × (k ≡ c))) origins new
 sent_more from origins old new r c h more = record { there = there; only = only }
@@ -107,11 +107,11 @@ sent_more from origins old new r c h more = record { there = there; only = only 
       | inr early ↦ (let o = h.only i p early in (o.0, inl o.1, o.2))
     ]
 
--- the bits of the rows before one, and of this many columns of that one
+-- the bits of the rows before r, and of the first c columns of row r
 abbrev Columns : (old : Table) (r c : ℕ) → (i j : ℕ) → Type 0
 Columns old r c i j = ((i < r) ⊎ ((i ≡ r) × (j < c))) × IsTrue (has old i j)
 
--- one more column: its bit is set, or its bit is clear
+-- `AreSent` holds with one more column, if its bit is set; then, if its bit is clear
 pub column_sent : (old : Table) (origins : List ℕ) (r c : ℕ) (mid new : Table) → has old r c ≡ true → ((i j : ℕ) → has new i j ≡ ((r == i && get_or origins c 0 == j) || has mid i j))
     → AreSent (Columns old r c) origins mid → AreSent (Columns old r (c + 1)) origins new
 column_sent old origins r c mid new set more h = sent_as (λ i k. Columns old r c i k ⊎ ((i ≡ r) × (k ≡ c))) (Columns old r (c + 1)) origins new to from (sent_more (Columns old r c) origins mid new r c h more)

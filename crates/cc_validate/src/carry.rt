@@ -16,8 +16,8 @@ use cc_ltl::Block;
 use cc_rtl_language::Node;
 use std::alloc::{AllocError, Global};
 
-/// What has to hold before a block, given what has to hold after it. Rows are made with room for this many words of locations. Err: memory
-/// ran out.
+/// What has to hold before a block, given what has to hold after it. Rows are made with room for `width` words of locations. `Err` if
+/// memory runs out.
 pub fn carry(
     alloc: Global,
     node: &Node,

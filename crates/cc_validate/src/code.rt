@@ -1,4 +1,4 @@
-// The nodes and blocks of a function as the solver takes them: side by side, by position.
+// The nodes and blocks of a function as the solver reads them: side by side, by position.
 
 ghost use Rattle.std.specs.Prelude.{◌≡◌, ◌≤◌};
 ghost use Rattle.cc_bits.specs.Rows.{most_width};
@@ -33,7 +33,7 @@ impl<'a> Model for Code<'a> {
 }
 
 impl<'a> Code<'a> {
-    /// Nodes and their blocks, and the number of words that a row of locations takes.
+    /// Nodes and their blocks, and the number of words that a row of locations occupies.
     pub fn new(rtl: &'a Rtl, blocks: &'a [Block], width: usize) -> Code<'a>
         requires beside { AreBeside rtl.now.nodes blocks.now }
         requires width { width ≤ most_width }

@@ -1,4 +1,4 @@
-// Sets of equations without a contradiction. Only this file knows how a set is kept: as rows of bits, one row for each pseudo-register,
+// Sets of equations without a contradiction. Only this file knows how a set is stored: as rows of bits, one row for each pseudo-register,
 // with one bit for each location. Rows past the last one with an equation take no memory, and rows are no wider than the function's
 // locations need. A set is carried through moves one by one, column to column. Through more moves than there are locations it is carried at
 // once, by a table that says where each location's word comes from.
@@ -64,7 +64,7 @@ impl Equations {
         }
     }
 
-    /// A copy of the set, with room for this many words of locations. Err: memory ran out.
+    /// A copy of the set, with room for `width` words of locations. `Err` if memory runs out.
     pub fn copy(&self, width: usize) -> Result<Equations, AllocError>
         requires { width ≤ most_width }
         ensures { IfOk result (λ made. made ≡ self.now) }
@@ -94,7 +94,7 @@ impl Equations {
         Ok(rose)
     }
 
-    /// What has to hold before these moves, so that the set holds after them. Err: memory ran out.
+    /// What has to hold before these moves, so that the set holds after them. `Err` if memory runs out.
     pub fn carry(self, alloc: Global, moves: &[Move]) -> Result<Equations, AllocError>
         ensures { IfOk result (λ made. AreCarried (before_moves moves.now) self made) }
     {
@@ -107,7 +107,7 @@ impl Equations {
         Ok(Equations { bits })
     }
 
-    /// Replaces one pseudo-register with another in all equations. Err: memory ran out.
+    /// Replaces one pseudo-register with another in all equations. `Err` if memory runs out.
     pub fn rename(self, to: u32, from: u32) -> Result<Equations, AllocError>
         ensures { IfOk result (λ made. AreCarried (λ e. equation (if to == e.register then from else e.register) e.location) self made) }
     {
@@ -208,7 +208,7 @@ fn put_row(
     Ok(())
 }
 
-/// Whether each bit is that of a parameter and its location.
+/// Whether each bit that is set is that of a parameter and its location.
 fn are_entry_bits(bits: &BitRows, parameters: u32) -> bool
     ensures all { IsTrue result → (r c : ℕ) → IsTrue (has bits.now r c) → IsEntryBit parameters r c }
     ensures other { IsFalse result → (r c : ℕ) × IsTrue (has bits.now r c) × (IsEntryBit parameters r c → ⊥) }
@@ -221,7 +221,7 @@ fn are_entry_bits(bits: &BitRows, parameters: u32) -> bool
     true
 }
 
-/// Whether each bit of row r is that of a parameter and its location.
+/// Whether each bit of row r that is set is that of a parameter and its location.
 fn is_entry_row(bits: &BitRows, parameters: u32, r: usize) -> bool
     requires { r < most_rows }
     ensures all { IsTrue result → (c : ℕ) → IsTrue (has bits.now r c) → IsEntryBit parameters r c }

@@ -10,7 +10,8 @@ use std::alloc::{AllocError, Global};
 /// The number of locations: 32 registers, then 495 slots.
 pub const PLACES: usize = 527;
 
-/// For each location, the number of the location from which its word comes through the moves. Err: memory ran out.
+/// For each location, the number of the location from which its word comes through the moves. `Err` if memory runs
+/// out.
 pub fn origins(alloc: Global, moves: &[Move]) -> Result<Vec<usize>, AllocError>
     ensures { IfOk result (λ made. AreOrigins moves.now made.items) }
 {

@@ -28,9 +28,9 @@ pub struct Refused {
 
 /// The LTL in place of the RTL, if equations show that it does what the RTL does.
 ///
-/// The answer is Ok exactly if the equations have a solution, whoever made the LTL; only lack of memory can refuse it then. The LTL's run
-/// then follows the RTL's, even if the source goes wrong and the RTL does not. A refusal hands the pair back as it was: 24 if there is no
-/// solution, with a label at which the proof failed; 40 if memory ran out.
+/// The answer is Ok exactly if the equations have a solution, whoever made the LTL, unless memory runs out. The LTL's run then follows
+/// the RTL's, even if the source goes wrong and the RTL does not. A refusal hands the pair back as it was: 24 if there is no solution,
+/// with a label at which the proof failed; 40 if memory ran out.
 pub fn validate(alloc: Global, pair: RtlPair, ltl: Ltl) -> Result<LtlPair, Refused>
     ensures answer { IfOk result (λ made. made ≡ record { mode = pair.mode; unit = pair.unit; function = pair.function; ltl = ltl }) }
     ensures solved { IfOk result (λ _. HasSolution pair.rtl ltl) }
@@ -85,7 +85,7 @@ fn decide(alloc: Global, rtl: &Rtl, ltl: &Ltl) -> Result<(), ValidateFault>
     Ok(())
 }
 
-/// How many words the bits of the registers and of this many slots take.
+/// How many words the bits of the registers and of this many slots occupy.
 fn words_for(slots: u16) -> usize
     ensures { result ≤ most_width }
 {
@@ -111,7 +111,7 @@ fn contradicted(rtl: &Rtl, facts: &[EquationSet]) -> Option<u32>
     None
 }
 
-/// Whether the facts have only parameters, each at its location.
+/// Whether the facts have only equations of parameters, each with its location.
 fn parameters_alone(parameters: u32, facts: &EquationSet) -> bool
     ensures { IsTrue result ↔ HoldsParametersAlone parameters facts.now }
 {

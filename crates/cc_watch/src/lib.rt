@@ -1,7 +1,7 @@
-//! Writers of answers: one that knows whether a line of them is a fault, and one that says on a terminal how many lines there
-//! are.
+//! Writers of answers: `watch` has one that knows whether a line of the answers reports a fault, `progress` one that shows
+//! on a terminal how many lines there are.
 //!
-//! It needs no other crate. `watch` has the first, `progress` the second.
+//! The crate needs no other crate.
 #![tactic(auto)]
 
 mod progress;

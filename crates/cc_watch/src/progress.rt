@@ -1,14 +1,14 @@
-// A writer that says on a terminal how many lines were written to it.
+// A writer that shows on a terminal how many lines were written to it.
 
 ghost use Rattle.std.specs.Prelude.{◌≡◌};
 
 use std::io::{self, Write};
 use std::rt::Clock;
 
-/// Nothing is shown for this many seconds.
+/// Nothing is shown in the first two seconds.
 const QUIET: u64 = 2;
 
-/// A writer that says how many lines were written. From the third second on it says so at most once a second, on one line of a
+/// A writer that shows how many lines were written to it: from the third second on, at most once a second, on one line of a
 /// terminal, which is overwritten.
 #[derive(Drop)]
 pub struct AnswerProgress<W: Drop, C: Drop, E: Drop> {
@@ -24,7 +24,7 @@ pub struct AnswerProgress<W: Drop, C: Drop, E: Drop> {
     is_shown: bool,
 }
 
-// The second that a clock shows; none if it can't be read.
+// The time on a clock, in whole seconds; `None` if the clock can't be read.
 fn second<C: Clock>(clock: &C) -> Option<u64> {
     match clock.monotonic() {
         Ok(time) => Some(time.as_secs()),
@@ -36,8 +36,8 @@ fn second<C: Clock>(clock: &C) -> Option<u64> {
 }
 
 impl<W: Write + Drop, C: Clock + Drop, E: Write + Drop> AnswerProgress<W, C, E> {
-    /// Puts itself before this writer. The screen, if there is one, shows how many of these `things` there are, one on each
-    /// line, for example `lines of answers`.
+    /// Wraps a writer. The screen, if there is one, shows the number of lines, followed by what they are: `things`, for
+    /// example `lines of answers`.
     pub fn new(
         writer: W,
         clock: C,
@@ -82,7 +82,7 @@ impl<W: Write + Drop, C: Clock + Drop, E: Write + Drop> AnswerProgress<W, C, E> 
         }
     }
 
-    // Says how many lines there are. The cursor goes back, so that the next line is written over it.
+    // Shows how many lines there are. The cursor goes back, so that what is shown next is written over this.
     fn show(&mut self)
         ensures { self.new.writer ≡ self.old.writer }
     {
@@ -105,7 +105,7 @@ impl<W: Write + Drop, C: Clock + Drop, E: Write + Drop> AnswerProgress<W, C, E> 
         }
     }
 
-    // Says how many lines there are, if it is time for that.
+    // Shows how many lines there are, if it is time to do so.
     fn tell(&mut self)
         ensures { self.new.writer ≡ self.old.writer }
     {

@@ -19,7 +19,7 @@ pub struct FaultWatch<W: Drop> {
 }
 
 impl<W: Write + Drop> FaultWatch<W> {
-    /// Puts itself before this writer.
+    /// Wraps a writer.
     pub fn new(writer: W) -> FaultWatch<W>
         ensures writer { result.writer ≡ writer }
         ensures none { result.has_fault ≡ false }

@@ -1,6 +1,6 @@
--- The laws of words that the crates above use: a word and its signed value determine each other; each operation gives a word;
--- what a comparison means; comparisons and the complement expressed by other operations. Each law but the last is one call of a
--- tactic, by cases on whether a word is below 2^31 and linear arithmetic. The last compares bit by bit.
+-- The laws of words that the crates above use: a word and its signed value determine each other; the value of each operation is
+-- a word; what a comparison means; and comparisons and the complement expressed by other operations. Each law except the last
+-- is one call of a tactic, by cases on whether a word is below 2^31 and linear arithmetic. The last law compares bit by bit.
 use Rattle.std.proofs.Common.{◌≡◌, ℕ, ◌+◌, ◌-◌, ◌%◌, ◌^◌, ◌<◌, ◌≤◌, Bool, true, false, ◌≢◌, ◌⊎◌, ◌↔◌, inl, inr, Some, ℤ, pos, negsuc, ◌<ℤ◌, ◌≤ℤ◌, refl, sym, ap, ◌∙◌, arith, rules, div-le_self, w32, FitsSigned}
 use Rattle.std.specs.Int.{cast_signed}
 use Rattle.std.proofs.lemmas.Int.{ints}
@@ -17,7 +17,7 @@ pub IsWord-word_of : (z : ℤ) → IsWord (word_of z)
 IsWord-word_of (pos n) = omega arith
 IsWord-word_of (negsuc n) = omega arith
 
--- the signed value is the one that a machine's cast gives
+-- the signed value is the result of a machine's cast
 pub signed_value-cast : (w : ℕ) → IsWord w → signed_value w ≡ cast_signed w32 w
 signed_value-cast w h = grind (arith, ints)
 
@@ -33,11 +33,11 @@ signed_value-word_of z h = grind (arith, ints)
 pub signed_value_injective : (a b : ℕ) → IsWord a → IsWord b → signed_value a ≡ signed_value b → a ≡ b
 signed_value_injective a b p q e = sym (word_of-signed_value a p) ∙ ap word_of e ∙ word_of-signed_value b q
 
--- a difference of words, using only natural numbers
+-- a difference of words can be computed with natural numbers only
 pub sub_is : (a b : ℕ) → IsWord a → IsWord b → sub a b ≡ (a + (2 ^ 32 - b)) % 2 ^ 32
 sub_is a b p q = grind (arith, ints)
 
--- ---- each operation gives a word
+-- ---- the value of each operation is a word
 
 pub IsWord-add : (a b : ℕ) → IsWord (add a b)
 IsWord-add a b = omega arith

@@ -1,7 +1,7 @@
 -- Quotient and remainder as in C99 6.5.5: if the division has a value, the quotient times the divisor plus the remainder is the
 -- dividend, and the remainder is closer to 0 than the divisor and has the dividend's sign. The proof first shows that such a
--- quotient fits in an int, so that its word determines it; laws of whole numbers give the rest. The signed value of a right shift
--- is here too.
+-- quotient fits in an int, so that its word determines it; the rest follows from laws of whole numbers. The signed value of a
+-- right shift is in this file too.
 use Rattle.std.proofs.Common.{◌≡◌, ℕ, ◌*◌, ◌/◌, ◌%◌, ◌^◌, ◌<◌, ◌≤◌, Bool, true, false, cond, ltb, ◌≢◌, Some, None, ℤ, pos, negsuc, ◌+ℤ◌, ◌*ℤ◌, ◌≤ℤ◌, unsigned_abs, int_div, int_rem, refl, sym, ap, ◌∙◌, arith, div-le_self, zero, suc, neg_ℤ, mul-le-mul_left, le_trans, div-mul-le_self, lt_of_le_of_lt, div-one, w32, FitsSigned}
 use Rattle.std.specs.Int.{int_shr}
 use Rattle.std.specs.Int.Signed.{mag, mag_rem, mag_shr, le_z_yes}
@@ -17,7 +17,7 @@ mag_of-neg : (n m : ℕ) → n ≤ suc m → mag (neg_ℤ (pos n)) ≤ m
 mag_of-neg zero m h = omega arith
 mag_of-neg (suc n) m h = omega arith
 
--- a quotient by -2 or less is at most half the dividend
+-- a quotient by 2 or more is at most half the dividend
 half_quotient : (a b : ℕ) → suc a / suc (suc b) * 2 ≤ suc a
 half_quotient a b =
     let n = suc a / suc (suc b) in
@@ -41,7 +41,7 @@ quotient_fits (negsuc a) (negsuc (suc b)) h _ _ = record { sfits = omega (arith,
 remainder_fits : (x y : ℤ) → FitsSigned w32 x → FitsSigned w32 (int_rem x y)
 remainder_fits x y h = record { sfits = lt_of_le_of_lt (mag_rem x y) h.sfits }
 
--- if a signed division has a value, the divisor is not 0, and the operands are not -2147483648 and -1
+-- if a signed division has a value, the divisor is not 0, and the operation is not -2147483648 divided by -1
 has_quotient : (a b : ℕ) → IsWord a → IsWord b → lacks_quotient a b ≡ false
     → (signed_value b ≢ pos 0) × (signed_value a ≡ negsuc 2147483647 → signed_value b ≢ negsuc 0)
 has_quotient a b p q has = (
@@ -67,7 +67,7 @@ int_rem_sign (pos a) y =
     (λ _. omega (arith, ints), λ least. omega (arith, ints))
 int_rem_sign (negsuc a) y = (λ h. absurd h.le, λ _. neg_at_most_zero (suc a % unsigned_abs y))
 
--- the value of a division that has one
+-- if a division has the value `y`, it does not lack a quotient, and `y` is that quotient
 answer : (lacks : Bool) (x y : ℕ) → cond lacks None (Some x) ≡ Some y → (lacks ≡ false) × (x ≡ y)
 answer true x y e = cc
 answer false x y e = (refl, cc)

@@ -1,5 +1,6 @@
--- A sum, a difference or a product of words is also that of their signed values, modulo 2^32. So one operation serves both `int`
--- and `unsigned`. A word is its signed value or 2^32 more, so the two results differ by a multiple of 2^32.
+-- A sum, a difference or a product of words is also the sum, difference or product of their signed values, modulo 2^32. So one
+-- operation serves both `int` and `unsigned`. A word is its signed value or 2^32 more, so the results for words and for signed
+-- values differ by a multiple of 2^32.
 use Rattle.std.proofs.Common.{◌≡◌, ℕ, ◌+◌, ◌-◌, ◌*◌, ◌%◌, ◌^◌, ◌⊎◌, inl, inr, ℤ, pos, negsuc, ◌+ℤ◌, ◌-ℤ◌, ◌*ℤ◌, unsigned_abs, refl, sym, ap, ◌∙◌, arith, suc, neg_ℤ, mul-add, mul_comm}
 use Rattle.std.proofs.lemmas.Int.{ints, int_rem_euclid_is}
 use Rattle.std.proofs.Math.IntN.{*ℤ_comm}
@@ -41,12 +42,12 @@ below_zero : (z : ℤ) (w : ℕ) → z +ℤ pos (2 ^ 32) ≡ pos w → IsWord w 
 below_zero (pos n) w e h = absurd (omega (arith, ints))
 below_zero (negsuc m) w e h = (m, refl, omega (arith, ints))
 
--- a word's signed value, depending on its sign
+-- a word's signed value is the word itself, or a negative number that is 2^32 less
 signed_value_form : (w : ℕ) → IsWord w → (signed_value w ≡ pos w) ⊎ ((m : ℕ) × (signed_value w ≡ negsuc m) × (w + suc m ≡ 2 ^ 32))
 signed_value_form w h =
     elim (word_cases w h) [ inl e ↦ inl e | inr e ↦ inr (below_zero (signed_value w) w e h) ]
 
--- products with one factor below 0, and with both
+-- if one factor or both are below 0, the product differs from that of the words by a multiple of n
 product_of_one : (n a b x : ℕ) → b + x ≡ n → neg_ℤ (pos (a * x)) +ℤ pos (a * n) ≡ pos (a * b)
 product_of_one n a b x e = let f : a * n ≡ a * b + a * x = ap (λ t. a * t) (sym e) ∙ mul-add a b x in omega (arith, ints)
 

@@ -2,7 +2,7 @@
 pub mod Words
 -- The operators of the intermediate languages: their values, and their names.
 pub mod Operators
--- How wide an object's elements are, what an element keeps of a word, and how many words a number of elements fills.
+-- How wide an object's elements are, which part of a word an element keeps, and how many words some elements fill.
 pub mod Widths
 -- Worked values of these definitions, each shown by computation. No contract depends on them.
 pub mod rows

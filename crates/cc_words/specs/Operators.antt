@@ -12,7 +12,7 @@ apply_unary Neg w = neg w
 apply_unary Complement w = complement w
 apply_unary IsZero w = is_zero w
 
--- the value of an operator on two words, or None if C leaves it undefined
+-- the value of an operator on two words, or None if it has none
 -- ORDER Binary
 abbrev pub apply_binary : Binary → ℕ → ℕ → Option ℕ
 apply_binary Add a b = Some (add a b)

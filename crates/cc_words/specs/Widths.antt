@@ -1,5 +1,4 @@
--- How wide an object's elements are, what an element keeps of a word (C99 6.3.1.3), and how many words a number of elements
--- fills.
+-- How wide an object's elements are, which part of a word an element keeps (C99 6.3.1.3), and how many words a number of elements fills.
 use Rattle.std.specs.Prelude.{ℕ, ◌+◌, ◌/◌, ◌%◌, ◌^◌, Bool, true, false, List, [], codes}
 use Rattle.cc_words.specs.declared.operators.Width.{Width}
 use Rattle.cc_words.specs.declared.operators.Width.TheVariants.{Byte, Word}
@@ -15,7 +14,7 @@ same_width Word Word = true
 same_width Byte Word = false
 same_width Word Byte = false
 
--- what an element keeps of a word: a byte keeps the low eight bits
+-- the part of a word that an element keeps: a byte keeps the low eight bits
 abbrev pub kept : Width → (word : ℕ) → ℕ
 kept Byte w = w % 2 ^ 8
 kept Word w = w

@@ -1,12 +1,12 @@
 //! The operations on a 32-bit machine word that C99 and RV32IM have: sums, comparisons, divisions, shifts.
 //!
-//! They are free functions on `u32`. A signed operation reads its words in two's complement. Each returns the value of its
-//! formula over whole numbers in `specs/Words.antt`, and `None` if C leaves the operation undefined. No call takes memory or
+//! They are free functions on `u32`. A signed operation reads its words in two's complement. Each function returns the value
+//! of its formula over whole numbers in `specs/Words.antt`, or `None` if the operation has no value. No call takes memory or
 //! fails in any other way.
 //!
-//! `operators` has the operators of the intermediate languages as values, and the width of an object's elements.
+//! `operators` contains the operators of the intermediate languages as values, and the width of an object's elements.
 //!
-//! The crate exports the calls, the operators, their definitions (`specs/`) and the laws that hold for them (`proofs/`).
+//! The crate exports the functions, the operators, their definitions (`specs/`) and the laws that hold for them (`proofs/`).
 #![tactic(auto)]
 
 mod operators;

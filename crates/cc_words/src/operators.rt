@@ -92,7 +92,7 @@ pub enum Binary {
 impl Binary {
     /// The operator's value for these words.
     ///
-    /// `None` exactly if C leaves it undefined: a divisor of 0, a signed division of -2147483648 by -1, or a shift by 32 or more.
+    /// `None` exactly if there is no value: a divisor of 0, a signed division of -2147483648 by -1, or a shift by 32 or more.
     pub fn apply(self, left: u32, right: u32) -> Option<u32>
         ensures { result ≡ apply_binary self left right }
     {
@@ -159,7 +159,7 @@ pub enum Width {
 }
 
 impl Width {
-    /// How many bytes an element takes: 1 or 4.
+    /// How many bytes an element occupies: 1 or 4.
     pub fn bytes(self) -> u8
         ensures { result ≡ bytes self }
     {
@@ -169,7 +169,7 @@ impl Width {
         }
     }
 
-    /// What an element keeps of a word that is stored in it: a byte keeps the low eight bits (C99 6.3.1.3).
+    /// The part of a word that an element keeps when the word is stored in it: a byte keeps the low eight bits (C99 6.3.1.3).
     #[inline(always)]
     pub fn kept(self, word: u32) -> u32
         ensures { result ≡ kept self word }

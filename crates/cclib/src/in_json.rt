@@ -15,7 +15,7 @@ use std::rt::{Clock, Files};
 use std::sync::Wait;
 use std::thread::Threads;
 
-// The files of a program, or standard input if none is named.
+// The names of a program's files; standard input if none is given.
 fn named(alloc: Global, names: Vec<String>) -> Result<Vec<String>, AllocError> {
     let mut names = names;
     if names.is_empty() {
@@ -43,7 +43,8 @@ fn start<R: AllocGlobal + Input + Print>(
     Ok(perform_files_in_json(rt, files, task, names, is_quiet, &mut writer))
 }
 
-/// Does a work that can be printed as JSON, with writers of objects in place of standard output and standard error; the status. Nobody reads about what waits or goes on.
+/// Does work that can be printed as JSON, with writers of objects in place of standard output and standard
+/// error. The result is the status. Notes that a person would read while waiting are left out.
 pub fn do_work_in_json<R>(
     rt: &R,
     files: &HostRuntime,

@@ -14,14 +14,14 @@ use std::rt::Clock;
 use std::sync::Wait;
 use std::thread::Threads;
 
-// Shows a person how far a long `add` has come: the workers pass this gate before each function.
+// Shows a person how far a long `add` has got: the workers pass this gate before each function.
 #[derive(Drop)]
 struct Progress<R> {
     rt: R,
     is_shown: bool,
 }
 
-/// How many functions are compiled between two notes about them.
+/// How many functions are compiled between two notes to the person.
 const STEP: u32 = 16;
 
 impl<R: Eprint> Gate for Progress<R> {
@@ -39,7 +39,7 @@ fn status(end: SessionEnd) -> u8 {
     }
 }
 
-// Whether nobody sees how far the answers have come.
+// Whether nobody sees the answers as they come.
 fn is_out_of_sight(files: &HostRuntime) -> bool {
     !files.stdout().is_terminal()
 }

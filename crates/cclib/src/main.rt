@@ -1,9 +1,9 @@
 //! The program `cclib`: reads a C program from standard input or from files, and checks, interprets, runs or lists it, or runs a
 //! script over a library. `cc_command_line` reads the command line, `cc_tasks` performs a task, `cc_session` runs a script.
-//! `cc_filing` has the file of a library and what is taken out of one, `cc_keeping` what looks into libraries, `cc_submit` a
-//! server's client, `cc_json` what is printed as JSON, `cc_cover` a run that is watched. `keeping` looks into libraries,
-//! `library` has a session over a file, `serving` a server, `stack` what the stack needs, `texts` a program that comes in files,
-//! `in_json` does work in JSON, `watching` runs that are watched, `version` names the sources of the program.
+//! `cc_filing` opens the file of a library and takes a unit out of it, `cc_keeping` looks into libraries, `cc_submit` is a
+//! server's client, `cc_json` prints JSON, `cc_cover` watches a run. `keeping` looks into libraries, `library` has a session over
+//! a file, `serving` a server, `stack` reserves the stack, `texts` has programs that come in files, `in_json` work in JSON,
+//! `watching` runs that are watched, `version` the names of the program's sources.
 #![tactic(auto)]
 
 mod in_json;
@@ -41,11 +41,11 @@ use texts::{start_stages_of_texts, start_texts};
 use version::print_sources;
 use watching::{start_cover, start_trace};
 
-/// Does what the command line asks; the status is 0 for an answer, 1 for a fault, 2 for a refused command line.
+/// Does what the command line asks; the status is 0 for an answer, 1 for a fault, 2 for a command line that is refused.
 ///
-/// If standard input, output or error is closed, its descriptor is taken before any file is opened, and kept until the end.
+/// If standard input, output or error is closed, its descriptor is occupied before any file is opened, and kept until the end.
 /// Otherwise the file of a library would get that descriptor, and what is printed would go into the file. If a descriptor can't
-/// be taken, nothing is done, and the status is 1.
+/// be occupied, nothing is done, and the status is 1.
 fn main(rt: HostRuntime) -> ExitCode {
     let Ok(stand_ins) = take_free(&mut System { rt }) else {
         return ExitCode::from(1);
@@ -80,7 +80,7 @@ fn main(rt: HostRuntime) -> ExitCode {
     ExitCode::from(status)
 }
 
-// Who types the input, and who sees what is printed.
+// Whether a person types the input, and whether a person sees what is printed.
 fn persons_at(rt: &HostRuntime, is_quiet: bool) -> Persons {
     Persons {
         is_typed: rt.stdin().is_terminal(),
@@ -89,7 +89,7 @@ fn persons_at(rt: &HostRuntime, is_quiet: bool) -> Persons {
     }
 }
 
-// What the command line asks for, with the stack that it may need; else the status, or lack of memory.
+// What the command line asks for, once the stack that this may need is reserved; else the status, or that memory ran out.
 fn read_request<R: AllocGlobal + Env + Eprint + Print>(
     rt: &R,
     files: &HostRuntime,
@@ -144,7 +144,7 @@ fn start<R: AllocGlobal + Input + Print, E: Write + Drop>(
     Ok(done.status)
 }
 
-// Shows what the compiler makes of a text; the only error is that memory ran out before this began.
+// Shows each stage of the compilation of a text; the only error is that memory ran out before this began.
 fn start_stages<R: AllocGlobal + Input + Print, E: Write + Drop>(
     rt: &R,
     files: &HostRuntime,
@@ -167,7 +167,7 @@ fn start_stages<R: AllocGlobal + Input + Print, E: Write + Drop>(
     status
 }
 
-// Does the same for the text on standard input.
+// Shows each stage of the compilation of the text on standard input.
 fn start_stages_of_input<R: AllocGlobal + Input + Print, E: Write + Drop>(
     rt: &R,
     kind: Kind,
@@ -184,7 +184,7 @@ fn start_stages_of_input<R: AllocGlobal + Input + Print, E: Write + Drop>(
     })
 }
 
-// The status if there is no work; the only error is that memory ran out.
+// The status if the command line asks for no work; the only error is that memory ran out.
 fn status_of<R: Print>(rt: &R, files: &HostRuntime, nothing: NoRequest) -> Result<u8, AllocError> {
     match nothing {
         NoRequest::Told(status) => Ok(status),
@@ -193,14 +193,15 @@ fn status_of<R: Print>(rt: &R, files: &HostRuntime, nothing: NoRequest) -> Resul
     }
 }
 
-// Whether work may need more of the stack than a process begins with: all work may, except a client's, which sends texts as they
+// Whether work may need more of the stack than a process begins with: any work may, except a client's, which sends texts as they
 // are.
 fn goes_deep(work: &Work) -> bool {
     !matches!(work, Work::Submit(_))
 }
 
-/// Does work; if its program is in files, they are named. The answers of work that can be printed as JSON, except a task's, go to
-/// `answers`, which a person may see. The rest goes to standard output.
+/// Does the work that was asked for; `names` are the files of its program, if it comes in files. If the work's answer can be
+/// printed as JSON, it goes to `answers`, which may be a terminal, unless the work is a task. All other answers go to standard
+/// output.
 pub(crate) fn do_work<R, A: Write + Drop, E: Write + Drop>(
     rt: &R,
     files: &HostRuntime,

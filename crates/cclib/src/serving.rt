@@ -1,4 +1,4 @@
-// The command `serve`: the scripts that others leave in a folder, from many clients at a time, over a library in a file.
+// The command `serve`: it runs the scripts that others leave in a folder, with many clients at a time, over a library in a file.
 
 ghost use Rattle.std.specs.Fmt.{decimal};
 ghost use Rattle.std.specs.Io.KnownBytes.{Appends};
@@ -19,7 +19,7 @@ use std::rt::Clock;
 use std::sync::Wait;
 use std::thread::Threads;
 
-// Keeps the folder from one generation to the next, and reports on them to a person.
+// Looks after the folder between generations, and reports on the generations to a person.
 #[derive(Drop)]
 struct Serving {
     keeper: Keeper,
@@ -54,7 +54,7 @@ fn print_served<W: Write>(answered: u64, writer: &mut W) -> io::Result<()>
     writer.flush()
 }
 
-// Prints the same. The result is whether it was printed.
+// Prints how many answers were handed over, or explains that this failed. The result is whether it was printed.
 fn is_served_printed<W: Write, E: Write>(answered: u64, writer: &mut W, told: &mut E) -> bool
     ensures { result ≡ true → Appends (W.contents writer.old) (W.contents writer.new) (codes "served " ++ decimal answered ++ 10 ∷ []) }
 {
@@ -68,7 +68,7 @@ fn is_served_printed<W: Write, E: Write>(answered: u64, writer: &mut W, told: &m
     }
 }
 
-// Writes how serving ended, if no line for a fault was written. The result is whether all that had to be printed was printed.
+// Writes how serving ended, if no line for a fault was written. The result is whether everything that had to be printed was printed.
 fn write_end<W: Write, E: Write>(
     end: SessionEnd,
     counts: AnswerCounts,
@@ -104,7 +104,7 @@ fn status_of(end: SessionEnd, counts: AnswerCounts, is_printed: bool) -> u8
     }
 }
 
-// What serving a folder begins with: its spools, and who keeps it.
+// What serving a folder begins with: its spools, and the steward that looks after it.
 fn begin(
     alloc: Global,
     layout: &FolderLayout,
@@ -116,7 +116,7 @@ fn begin(
     Ok((spools, Serving { keeper }))
 }
 
-// Counts the answers and reports how serving ended; the status.
+// Counts the answers and reports how serving ended. The result is the status.
 fn finish<W: Write, E: Write>(
     layout: &FolderLayout,
     spools: Vec<FolderSpool>,
@@ -137,8 +137,9 @@ fn finish<W: Write, E: Write>(
     status_of(end, counts, is_printed)
 }
 
-/// Serves a folder over a library's disk until it has `stop`; the status: 0 if the service ended well, each answer was handed over, and
-/// `served N` was printed, else 1. The folder is let go when all is done. The error is lack of memory before it began.
+/// Serves a folder over a library's disk until the folder has `stop`. The result is the status: 0 if the service ended well, each
+/// answer was handed over, and `served N` was printed, else 1. The folder is released at the end. The only error is that memory ran out
+/// before this began.
 pub fn serve_folder<R, E: Write + Drop>(
     rt: &R,
     files: &HostRuntime,

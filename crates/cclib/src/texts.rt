@@ -1,4 +1,4 @@
-// A program that comes in files.
+// Work for a program that comes in files.
 
 use cc_filing::buffers;
 use cc_task::{Kind, Task};
@@ -43,8 +43,8 @@ pub fn start_texts<R: AllocGlobal + Input + Print, E: Write + Drop>(
     Ok(done.status)
 }
 
-/// Shows what the compiler makes of the program in these files. The result is the status. The only error is that memory ran out
-/// before this began.
+/// Shows each stage of the compilation of the program in these files. The result is the status. The only error is that memory
+/// ran out before this began.
 pub fn start_stages_of_texts<R: AllocGlobal + Input + Print, E: Write + Drop>(
     rt: &R,
     files: &HostRuntime,

@@ -1,12 +1,12 @@
-// The sources of an installed program: the installation wrote their names into a file beside the program. They are printed after
-// the line with the version.
+// The names of an installed program's sources, which the installation wrote into a file beside the program. They are printed
+// after the line with the version.
 
 use cc_sources::{NoText, read_text};
 use std::env;
 use std::fs::File;
 use std::io::{self, Print, Write};
 
-// The text that the installation put beside the program; an error if the program is not installed.
+// The text of the file that the installation put beside the program; an error if the program is not installed.
 fn sources(files: &HostRuntime) -> io::Result<Vec<u8>> {
     let program = env::current_exe(files)?;
     let Some(folder) = program.parent() else {
@@ -21,8 +21,8 @@ fn sources(files: &HostRuntime) -> io::Result<Vec<u8>> {
     }
 }
 
-// Whether a line names the sources of the program, or the toolchain that made it. A line that could control a terminal is not
-// wanted.
+// Whether a line names the sources of the program, or the toolchain that made it. A line with bytes that could control a
+// terminal is not wanted.
 fn is_wanted(line: &[u8]) -> bool {
     (line.starts_with(b"commit ") || line.starts_with(b"toolchain "))
         && line

@@ -52,7 +52,8 @@ fn cover_each<R: AllocGlobal + Clock + Input + Copy + Drop, W: Write, E: Write +
     status
 }
 
-/// Runs `cover`, in the same way.
+/// Runs `cover` for the program in these files, or on standard input if no file is named. The result is the status. The only
+/// error is that memory ran out before this began.
 pub fn start_cover<R: AllocGlobal + Clock + Input + Copy + Drop, A: Write + Drop, E: Write + Drop>(
     rt: &R,
     files: &HostRuntime,

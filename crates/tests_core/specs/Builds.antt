@@ -8,22 +8,22 @@ use Rattle.cc_core.specs.Rules.{Rules, AreWhole}
 abbrev pub Seen : Type 0
 Seen = StoredUnit × ℕ
 
--- a source that begins with `#` is refused with 11; one that begins with `2` has two pieces, and each other one has one
+-- a source that begins with `#` is refused with 11; one that begins with `2` has two pieces, and any other has one
 abbrev pub plan : List ℕ → Result ℕ ℕ
 plan [] = Ok 1
 plan (first ∷ later) = if first == 35 then Err 11 else (if first == 50 then Ok 2 else Ok 1)
 
--- the unit, unless the source begins with `!`: that is refused with 25
+-- the unit, unless the source begins with `!`: such a source is refused with 25
 abbrev pub linked : List ℕ → StoredUnit → Result StoredUnit ℕ
 linked [] unit = Ok unit
 linked (first ∷ later) unit = if first == 33 then Err 25 else Ok unit
 
--- the unit of the first piece; with no pieces, refused with 26
+-- the unit of the first piece, or 26 if there are no pieces
 abbrev pub unit_of : List ℕ → List Seen → Result StoredUnit ℕ
 unit_of source [] = Err 26
 unit_of source (piece ∷ later) = linked source piece.0
 
--- the rules of that build
+-- the rules of the build of few pieces
 abbrev pub rules : Rules Seen
 rules = record { plan = λ source answer. answer ≡ plan source; source_of = λ piece. piece.0.source; part_of = λ piece. piece.1; unit = unit_of }
 
@@ -46,7 +46,7 @@ linked_same : (source : List ℕ) (u v : StoredUnit) → linked source u ≡ Ok 
 linked_same [] u v is = cc
 linked_same (first ∷ later) u v is = chosen (first == 33) u v is
 
--- the unit of the first piece has the source that the piece names, and is right since the piece is
+-- if pieces are all the pieces of a source, the unit of the first one has this source and is right
 pub law : (source : List ℕ) (pieces : List Seen) (unit : StoredUnit) → AreWhole rules source pieces → All keeps pieces → unit_of source pieces ≡ Ok unit → (unit.source ≡ source) × is_right unit
 law source [] unit whole kept is = absurd (cc)
 law source (piece ∷ later) unit whole kept is =

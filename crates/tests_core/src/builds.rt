@@ -1,4 +1,4 @@
-// Two builds: one whose units have to be right, and one by which any unit is right.
+// Two builds: one whose units must be right, and one for which any unit is right.
 
 ghost use Rattle.tests_core.specs.Builds.{rules, keeps, is_right, planned, law, nothing, is_anything, nothing_planned, nothing_law};
 
@@ -12,8 +12,8 @@ use std::sync::Arc;
 use std::test::Fail;
 
 /// A build in which a source that begins with `2` has two pieces, and each other source has one. A source that begins with `#` is refused
-/// with 11, and the pieces of one that begins with `!` with 25. The image of a unit has one code word, the length of the source; and if the
-/// source begins with `c`, the unit has a certificate of as many bytes as the source's second byte says.
+/// with 11, and the pieces of a source that begins with `!` are refused with 25. The image of a unit has one code word, the length of the
+/// source. If the source begins with `c`, the unit has a certificate of as many bytes as the source's second byte says.
 #[derive(Drop)]
 pub struct FewPieces {}
 
@@ -64,7 +64,7 @@ impl Scripted for FewPieces {
     }
 }
 
-/// A build that makes nothing: each source is refused with 11. With it any unit is right, so it opens any library.
+/// A build that makes nothing: each source is refused with 11. For this build any unit is right, so it can open any library.
 #[derive(Drop)]
 pub struct Nothing {}
 

@@ -11,7 +11,7 @@ use cc_core::sequence::Sequence;
 use std::test::Fail;
 use tests_texts::verdict::passes;
 
-// A source that the build refuses, one whose pieces it refuses, and one of two pieces.
+// A source that the build refuses, one whose pieces the build refuses, and one of two pieces.
 const BAD: &str = "#xx";
 
 const UNLINKED: &str = "!xx";
@@ -28,7 +28,7 @@ const TWO_CLIENTS: [Line; 6] = [
     Done(1, ONE, 0),
 ];
 
-// The other lines of the worked table, with the four device events before the reply.
+// The other lines of the worked table, with the four device events of the commit before the reply.
 const ONE_OF_TWO: [(Line, u32); 5] = [
     (Begin(1), 29),
     (Write, 0),
@@ -49,8 +49,8 @@ fn two_clients_add_one_name(rt: HostRuntime) -> Result<(), Fail> {
     ))
 }
 
-// The refusals at the beginning of a commit: the source's, a piece's, the build's for the pieces, and then the map's. Then a unit is added,
-// replaced and withdrawn.
+// The refusals at the beginning of a commit: of the source, of a piece, of the pieces by the build, and then by the map. Then a unit is
+// added, replaced and withdrawn.
 const CHANGED: [(Line, u32); 25] = [
     (Add(7, b'a', BAD), 0),
     (Begin(7), 11),
@@ -112,7 +112,7 @@ fn not_now(rt: HostRuntime) -> Result<(), Fail> {
     passes(begins(rt.alloc(), 200, &NOT_NOW, &(None, None, None, 0)))
 }
 
-// Two pieces come out of order. First one of them is refused; then both are, and the answer is the number that refuses the first
+// Two pieces come out of order. First one of them is refused; then both are refused, and the answer is the number that refuses the first
 // piece; then both are made.
 const TWO_PIECES: [(Line, u32); 20] = [
     (Add(1, b'a', LONG), 0),
@@ -142,9 +142,9 @@ fn two_pieces(rt: HostRuntime) -> Result<(), Fail> {
     passes(begins(rt.alloc(), 200, &TWO_PIECES, &(Some(LONG), None, None, 1)))
 }
 
-// The record of a name of one byte and a source of three takes 28 bytes: the gate, the length, 4 bytes up to the name, 7 for the
-// source, 8 for the one code word, 4 for no globals. An area of 64 bytes has room for two and their closed gate, but not for
-// three.
+// The record of a name of one byte and a source of three bytes takes 28 bytes: the gate, the length, 4 bytes up to the name, 7 for the
+// source, 8 for the one code word, and 4 for no globals. An area of 64 bytes has room for two such records and their closed gate, but not
+// for three.
 const FULL: [(Line, u32); 5] = [
     (Put(3, 1, b'a', ONE), 1),
     (Put(3, 2, b'b', TWO), 1),
@@ -159,7 +159,7 @@ fn full_area(rt: HostRuntime) -> Result<(), Fail> {
 }
 
 // With a certificate a record takes more: 4 bytes for the certificate's length, and its bytes. An area of 64 bytes has room for a
-// certificate of 31 bytes, but not for one of 32. A rewrite and a crash keep a record with a certificate that has room.
+// certificate of 31 bytes, but not for one of 32. A record with a certificate that fits survives a rewrite and a crash.
 const ROOM: &str = "c\x1fx";
 
 const NO_ROOM: &str = "c\x20x";
@@ -179,7 +179,7 @@ fn a_certificate_that_has_no_room(rt: HostRuntime) -> Result<(), Fail> {
     passes(begins(rt.alloc(), 64, &CERTIFIED, &(Some(ROOM), None, None, 1)))
 }
 
-// Lists give back what they were made from; the numbers are those of the faults.
+// A list gives back what it was made from; each fault has its number.
 #[test]
 fn lists_and_numbers(rt: HostRuntime) -> Result<(), Fail> {
     let numbers = [

@@ -24,7 +24,7 @@ impl Scripted for CcBuild {
     }
 }
 
-// Whether an image that reads these words writes only that word, and exits with 0.
+// Whether an image that reads these words writes only this word, and exits with 0.
 fn writes(alloc: Global, image: &Image, input: &[u32], word: u32) -> Result<bool, Fail> {
     let mut machine = Machine::new(alloc, image, input)?;
     let outcome = machine.run(100_000);
@@ -36,8 +36,8 @@ fn writes(alloc: Global, image: &Image, input: &[u32], word: u32) -> Result<bool
 /// What the name `a` should have: its source, and what its image writes for the input 6.
 pub type Held = Option<(&'static str, u32)>;
 
-// Whether the name `a` has that source in the library, in a unit whose image turns the input 6 into that word; or is absent, if no source
-// is given.
+// Whether the name `a` has a unit with the wanted source, whose image turns the input 6 into the wanted word, or is absent if nothing is
+// wanted.
 fn has(alloc: Global, state: &State<CcBuild>, wanted: Held) -> Result<bool, Fail> {
     let name = name_of(b'a')?;
     match (state.library().get(&name), wanted) {
@@ -49,7 +49,7 @@ fn has(alloc: Global, state: &State<CcBuild>, wanted: Held) -> Result<bool, Fail
     }
 }
 
-/// Whether these events, one after the other from that state on, give these answers, and the name `a` then has what is wanted.
+/// Whether these events, played from this state on, give these answers, and the name `a` then has what is wanted.
 pub fn leaves(
     alloc: Global,
     mut state: State<CcBuild>,

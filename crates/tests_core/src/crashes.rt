@@ -24,8 +24,8 @@ const COMMIT: [Line; 8] = [
     SyncGate,
 ];
 
-// A crash after a number of events of the commit and one more event: whether the unit is there after the recovery, and how many commands
-// are acknowledged.
+// How many events of the commit come first, one more event, and the byte that a crash then leaves; whether the unit is there after the
+// recovery, and how many commands are acknowledged.
 type Row = (usize, Line, u8, bool, usize);
 
 // Adds the lines of a row.
@@ -47,11 +47,11 @@ fn recovers(alloc: Global, row: Row) -> Result<bool, Fail> {
 }
 
 const CRASHES: [Row; 12] = [
-    // What is left of the body counts for nothing without the gate.
+    // What is left of the body does not count without the gate.
     (4, WriteBody, 0x00, false, 0),
     (4, WriteBody, 0xa5, false, 0),
     (4, WriteBody, 0xff, false, 0),
-    // In the middle of writing the gate: the unit is there if the gate was left open.
+    // If the crash comes during the write of the gate, the unit is there exactly if the gate is left open.
     (6, WriteGate, 0x00, false, 0),
     (6, WriteGate, 0xa5, true, 0),
     // After the reply the unit is there.
@@ -73,9 +73,9 @@ fn a_crash_at_each_event(rt: HostRuntime) -> Result<(), Fail> {
     Ok(())
 }
 
-// From a crash until the recovery nothing else is possible; a failed step answers 35 and every later commit 36, until a recovery; then
-// commits are possible again, and two records are recovered after two crashes in a row. The first crash leaves the gate of the first record
-// open.
+// From a crash until the recovery nothing else is possible. A failed step answers 35, and every later commit answers 36 until a recovery.
+// Then commits are possible again, and two records are recovered after two crashes in a row. The first crash leaves the gate of the first
+// record open.
 const FAILED: [(Line, u32); 22] = [
     (Crash(0xa5), 0),
     (Add(4, b'b', TWO), 29),
@@ -107,14 +107,14 @@ fn until_the_recovery(rt: HostRuntime) -> Result<(), Fail> {
     passes(goes_on(rt.alloc(), first, &FAILED, &(Some(ONE), Some(ONE), None, 1)))
 }
 
-// No record is recovered from a new disk.
+// Nothing is recovered from a new disk.
 #[test]
 fn an_empty_recovery(rt: HostRuntime) -> Result<(), Fail> {
     let wanted = (None, None, None, 0);
     passes(begins(rt.alloc(), 200, &[(Crash(0xa5), 0), (Recover, 0)], &wanted))
 }
 
-// The laws hold for this build too.
+// The laws of the core, for this build.
 #[test]
 fn whatever_a_crash_leaves() {
     survival_law::<FewPieces>();

@@ -67,7 +67,7 @@ fn opened(alloc: Global) -> Result<State<FewPieces>, Fail> {
     }
 }
 
-// The names on the disk are there, and both of its records count as acknowledged; a third unit is made.
+// The names on the disk are in the library, and both records of the disk count as acknowledged. A third unit is made.
 const MADE: [(Line, u32); 5] = [
     (Add(1, b'a', TWO), 0),
     (Make(1, 1, TWO), 0),
@@ -76,10 +76,10 @@ const MADE: [(Line, u32); 5] = [
     (Make(1, 1, ONE), 0),
 ];
 
-// The third unit is committed, and a crash comes after that.
+// The third unit is committed, and then comes a crash.
 const ACKNOWLEDGED: [(Line, u32); 3] = [(Commit(1), 1), (Crash(0x00), 0), (Recover, 0)];
 
-// A crash in the middle of writing the gate leaves it open, and the recovery keeps the unit for good.
+// A crash during the write of the gate leaves the gate open, and the recovery keeps the unit for good.
 const TORN: [(Line, u32); 6] = [
     (UpToGate(1), 0),
     (Crash(0xa5), 0),
@@ -89,10 +89,10 @@ const TORN: [(Line, u32); 6] = [
     (Recover, 0),
 ];
 
-// A crash leaves the gate closed.
+// A crash during the write of the gate leaves the gate closed.
 const LOST: [(Line, u32); 3] = [(UpToGate(1), 0), (Crash(0x00), 0), (Recover, 0)];
 
-// Whether the unit is made on that state, and the events after that give these answers and leave this library.
+// Whether the third unit is made on the opened state, and the events after it give these answers and leave this library.
 fn goes_on(alloc: Global, last: &[(Line, u32)], wanted: &Held) -> Result<bool, Fail> {
     let mut lines = Vec::from_slice(alloc, MADE.as_slice())?;
     lines.extend_from_slice(last)?;
@@ -109,7 +109,7 @@ fn a_third_unit(rt: HostRuntime) -> Result<(), Fail> {
     passes(goes_on(alloc, &LOST, &two))
 }
 
-// A header with areas of 64 bytes, the second of which is in use.
+// A header for areas of 64 bytes, with the second area in use.
 const SECOND: [u8; 16] = [
     0x03, 0x43, 0x43, 0x4c, 0x49, 0x42, 0x30, 0x31, 0x40, 0x00, 0x00, 0x00, 0x00, 0x00, 0x00, 0x00,
 ];
@@ -121,7 +121,7 @@ const RECORD: [u8; 41] = [
     0x00, 0x00, 0x00, 0x00, 0x00, 0x00, 0x00, 0x00, 0x00,
 ];
 
-// A disk of 150 bytes with this header at offset 0 and this record at offset 80, written and not synced.
+// A disk of 150 bytes with this header at offset 0 and this record at offset 80, both written but not synced.
 fn raw(alloc: Global, header: &[u8; 16], record: &[u8; 41]) -> Result<MemoryDisk, Fail> {
     let mut disk = MemoryDisk::new(alloc, 150)?;
     disk.write_at(0, header)?;
@@ -139,7 +139,8 @@ const WITHDRAWN: [(Line, u32); 6] = [
     (Begin(1), 32),
 ];
 
-// Whether the state has that unit, its record counts as acknowledged, and these events give these answers and leave no unit.
+// Whether the state has the unit of `RECORD`, the unit's record counts as acknowledged, and the events of `WITHDRAWN` give
+// their answers and leave no unit.
 fn withdraws(alloc: Global, state: &mut State<Nothing>) -> Result<bool, Fail> {
     let name = name_of(b'a')?;
     if state.library().get(&name).is_none() || state.acked().len() != 1 {
@@ -149,7 +150,7 @@ fn withdraws(alloc: Global, state: &mut State<Nothing>) -> Result<bool, Fail> {
     Ok(right && state.library().get(&name).is_none() && state.acked().len() == 2)
 }
 
-// Whether `withdraws` holds for the state that is opened on a disk with these bytes.
+// Whether a state is opened on a disk with these bytes, and `withdraws` is true of it.
 fn is_withdrawn(alloc: Global, header: &[u8; 16], record: &[u8; 41]) -> Result<bool, Fail> {
     match State::open(alloc, Nothing {}, raw(alloc, header, record)?) {
         Ok(mut state) => {
@@ -166,7 +167,7 @@ fn the_second_area(rt: HostRuntime) -> Result<(), Fail> {
     passes(is_withdrawn(rt.alloc(), &SECOND, &RECORD))
 }
 
-// Whether a disk with these bytes is refused with this number, and is handed back with its size.
+// Whether a disk with these bytes is refused with this number, and the disk is handed back with the same size.
 fn is_refused(
     alloc: Global,
     header: &[u8; 16],
@@ -189,7 +190,7 @@ fn not_a_library(rt: HostRuntime) -> Result<(), Fail> {
     let mut long = RECORD;
     long[1] = 0x3b;
     passes(is_refused(rt.alloc(), &SECOND, &long, 37))?;
-    // The record replaces a unit, and there is none.
+    // The record replaces a unit, but the library has none.
     let mut replaces = RECORD;
     replaces[6] = 0x02;
     passes(is_refused(rt.alloc(), &SECOND, &replaces, 37))

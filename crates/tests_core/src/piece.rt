@@ -1,4 +1,4 @@
-// The pieces of the tests' own builds: which part of which source each is, and its unit.
+// The pieces of the tests' own builds: each has a unit, with the source in it, and the number of its part.
 
 ghost use Rattle.std.specs.Prelude.{◌≡◌, ◌↔◌, IfOk, IsTrue};
 ghost use Rattle.std.specs.Arc.{arc_value};
@@ -30,7 +30,7 @@ impl Model for Piece {
 }
 
 impl Piece {
-    /// Whether the piece is this part of that source.
+    /// Whether the piece is this part of this source.
     pub fn is_of(&self, source: &[u8], part: u32) -> bool
         ensures named { IsTrue result ↔ ((self.now.0.source ≡ source.now) × (self.now.1 ≡ part)) }
         ensures kept { keeps self.now }
@@ -46,7 +46,8 @@ impl Piece {
     }
 }
 
-/// How many bytes the certificate of a source's unit has, if it has one: the second byte of a source that begins with `c` says it.
+/// How many bytes the certificate of a source's unit has, if it has one: if the source begins with `c`, its second byte says how
+/// many.
 pub fn certified(source: &[u8]) -> Option<usize> {
     match source {
         [b'c', count, ..] => Some(*count as usize),
@@ -54,7 +55,7 @@ pub fn certified(source: &[u8]) -> Option<usize> {
     }
 }
 
-// A certificate of this many bytes, or none.
+// A certificate of this many bytes, or `None`.
 fn certificate(alloc: Global, count: Option<usize>) -> Result<Option<Certificate>, AllocError> {
     match count {
         Some(count) => Ok(Some(Certificate::new(vec![in alloc; 7u8; count]?))),
@@ -62,7 +63,7 @@ fn certificate(alloc: Global, count: Option<usize>) -> Result<Option<Certificate
     }
 }
 
-/// That part of a source. Fails if the source has more than 65,536 bytes.
+/// The piece that is this part of a source. Fails if the source has more than 65,536 bytes.
 pub fn compiled(alloc: Global, source: &[u8], part: u32) -> Result<Piece, Fail>
     ensures { IfOk result (λ piece. (piece.0.source ≡ source.now) × (piece.1 ≡ part)) }
 {

@@ -15,7 +15,7 @@ pub const ONE: &str = "one";
 
 pub const TWO: &str = "two";
 
-/// What a state should have: the sources of `a`, `b` and `c`, and how many commands are acknowledged.
+/// What a state should have: the sources of the units `a`, `b` and `c`, and how many commands are acknowledged.
 pub type Held = (
     Option<&'static str>,
     Option<&'static str>,
@@ -23,7 +23,7 @@ pub type Held = (
     usize,
 );
 
-// Whether this is the unit of that source.
+// Whether this is the unit of this source.
 fn is_of(unit: &StoredUnit, source: &[u8]) -> bool {
     let certificate = match (&unit.certificate, certified(source)) {
         (None, None) => true,
@@ -55,7 +55,7 @@ fn holds(state: &State<FewPieces>, wanted: &Held) -> Result<bool, Fail> {
     )
 }
 
-/// Whether these events, one after the other from that state on, give these answers, and leave what is wanted.
+/// Whether these events, played from this state on, give these answers and leave what is wanted.
 pub fn leaves(
     alloc: Global,
     mut state: State<FewPieces>,
@@ -67,7 +67,7 @@ pub fn leaves(
     Ok(right)
 }
 
-/// Whether these events, from a new state with areas of this many bytes on, give these answers, and leave what is wanted.
+/// Whether these events, played from a new state with areas of this many bytes on, give these answers and leave what is wanted.
 pub fn begins(alloc: Global, area: u32, lines: &[(Line, u32)], wanted: &Held) -> Result<bool, Fail>
     requires least { 64 ≤ area }
     requires most { area ≤ 2 ^ 30 }
@@ -75,8 +75,8 @@ pub fn begins(alloc: Global, area: u32, lines: &[(Line, u32)], wanted: &Held) ->
     leaves(alloc, fresh(alloc, area)?, lines, wanted)
 }
 
-/// Whether the events of the first lines, whatever they answer, leave a state from which the others give these answers, and leave
-/// what is wanted.
+/// Whether the events of the first lines, whatever they answer, lead to a state from which the other lines give these answers and
+/// leave what is wanted.
 pub fn goes_on(
     alloc: Global,
     first: &[Line],

@@ -18,9 +18,9 @@ const TWICE: [Line; 4] = [
     Commit(1),
 ];
 
-// Two records of the same name fill an area of 64 bytes, so there is no room for another name; a rewrite leaves one of the two,
-// and then there is room. During a rewrite jobs come and workers answer, but no commit begins; each step of the rewrite is
-// possible only in its turn. After it the other area is in use, and after two more rewrites in a row the same one again.
+// Two records of the same name fill an area of 64 bytes, so there is no room for another name; a rewrite leaves one of the two, and then
+// there is room. During a rewrite jobs come and workers answer, but no commit begins; each step of the rewrite is possible only in its
+// turn. After the rewrite the other area is in use, and again after two more rewrites in a row.
 const MAKES_ROOM: [(Line, u32); 36] = [
     (Add(7, b'b', ONE), 0),
     (Make(3, 7, ONE), 0),
@@ -60,7 +60,7 @@ const MAKES_ROOM: [(Line, u32); 36] = [
     (Fails, 29),
 ];
 
-// What the events of those two records answer.
+// What the events of the two records of `TWICE` answer.
 fn expected(line: Line) -> u32 {
     match line {
         Commit(_) | Put(..) => 1,
@@ -68,7 +68,7 @@ fn expected(line: Line) -> u32 {
     }
 }
 
-// Adds the two records and what comes after them.
+// Adds the lines of the two records and those that come after them.
 fn add_all(lines: &mut Vec<(Line, u32)>) -> Result<(), Fail> {
     for line in &TWICE {
         lines.push((*line, expected(*line)))?;
@@ -84,8 +84,8 @@ fn a_rewrite_makes_room(rt: HostRuntime) -> Result<(), Fail> {
     passes(begins(rt.alloc(), 64, &lines, &(Some(TWO), Some(ONE), None, 3)))
 }
 
-// A failure in a rewrite gives no reply, and closes the journal: no rewrite and no commit begins until the disk is opened again. Then the
-// name can be withdrawn, and a rewrite of an empty library leaves no record.
+// A failure during a rewrite gives no reply, and closes the journal: no rewrite and no commit begins until the disk is opened again. Then
+// the name can be withdrawn, and a rewrite of an empty library leaves no record.
 const CLOSED: [(Line, u32); 18] = [
     (RewriteAll, 0),
     (SyncAll, 0),
@@ -115,10 +115,10 @@ fn a_failure_closes(rt: HostRuntime) -> Result<(), Fail> {
 // The four device steps of a rewrite.
 const STEPS: [Line; 4] = [RewriteAll, SyncAll, WriteArea, SyncArea];
 
-// One more commit, in whichever area is in use by then, and a crash.
+// One more commit, in whichever area is then in use, and a crash.
 const ANOTHER: [Line; 3] = [Put(3, 7, b'b', ONE), Crash(0xa5), Recover];
 
-// Adds the two records, this many steps of a rewrite, the failure of the next one if it should fail, and a crash that leaves this byte.
+// Adds the two records, this many steps of a rewrite, the failure of the next step if `fails` is true, and a crash that leaves this byte.
 fn add_crash(lines: &mut Vec<Line>, steps: usize, fails: bool, byte: u8) -> Result<(), Fail> {
     lines.extend_from_slice(&TWICE)?;
     for line in STEPS.iter().take(steps) {
@@ -131,7 +131,7 @@ fn add_crash(lines: &mut Vec<Line>, steps: usize, fails: bool, byte: u8) -> Resu
     Ok(())
 }
 
-// Whether the map is recovered after that crash, and whether a commit after it is kept through another.
+// Whether the map is recovered after the crash that `add_crash` adds, and a commit after the recovery is kept through another crash.
 fn survives(alloc: Global, steps: usize, fails: bool, byte: u8) -> Result<bool, Fail> {
     let mut lines = Vec::new(alloc);
     add_crash(&mut lines, steps, fails, byte)?;

@@ -11,7 +11,8 @@ use cc_library::Name;
 use std::alloc::{AllocError, Global};
 use std::test::Fail;
 
-/// What happens, written with plain numbers: clients, workers and pieces by their numbers, a name by its one letter, a source by its text.
+/// What happens, written with plain numbers: clients, workers and pieces are given by their numbers, a name by its one letter, and a
+/// source by its text.
 #[derive(Clone, Copy)]
 pub enum Line {
     Add(u64, u8, &'static str),
@@ -31,16 +32,16 @@ pub enum Line {
     SyncArea,
     Fails,
     Ack(u64),
-    /// A crash that leaves this byte at the offsets 0 to 3,999, and 0 after them.
+    /// A crash that leaves this byte at unsettled offsets from 0 to 3,999, and 0 at later ones.
     Crash(u8),
     Recover,
-    /// A worker takes the only piece of a client's source, and makes it.
+    /// A worker takes the only piece of a client's source and makes it.
     Make(u64, u64, &'static str),
     /// The four device events of a commit.
     Write,
     /// A client's commit begins, is written, and is acknowledged.
     Commit(u64),
-    /// A client's commit begins and is written, its gate included, but not synced.
+    /// A client's commit begins and is written up to its gate, but the gate is not synced.
     UpToGate(u64),
     /// A worker and a client: the client adds a name with a source of one piece, the worker makes it, and the commit is acknowledged.
     Put(u64, u64, u8, &'static str),
@@ -54,9 +55,9 @@ use Line::{
     WriteBody, WriteGate,
 };
 
-/// A build from whose sources a script makes pieces.
+/// A build whose pieces a script can make from sources.
 pub trait Scripted: Build {
-    /// That part of a source.
+    /// The piece that is this part of a source.
     fn piece(alloc: Global, source: &str, part: u32) -> Result<Self::Piece, Fail>;
 }
 
@@ -93,7 +94,7 @@ fn append_commit(lines: &mut Vec<Line>, of: u64) -> Result<(), AllocError> {
     lines.extend_from_slice(&[WriteGate, SyncGate, Ack(of)])
 }
 
-// The lines of one event each that a line means.
+// The lines of single events that a line expands to.
 fn lines_of(alloc: Global, line: Line) -> Result<Vec<Line>, AllocError> {
     match line {
         Make(by, of, source) => Vec::from_slice(alloc, &[Take(by, of, 0), Done(by, source, 0)]),
@@ -115,7 +116,7 @@ fn lines_of(alloc: Global, line: Line) -> Result<Vec<Line>, AllocError> {
     }
 }
 
-// The event of a line that means one.
+// The event of a line that is a single event.
 fn event<B: Scripted>(alloc: Global, line: Line) -> Result<Event<B::Piece>, Fail> {
     match line {
         Add(of, name, source) => {
@@ -160,7 +161,7 @@ pub fn events<B: Scripted>(alloc: Global, lines: &[Line]) -> Result<Vec<Event<B:
     Ok(events)
 }
 
-// The number of an answer: 0 for no reply, 1 for done, else the refusal's or the fault's number.
+// The number of an answer: 0 for no reply, 1 for done, otherwise the number of the refusal or the fault.
 fn number_in(answer: &Result<Option<Reply>, CoreFault>) -> u32 {
     match answer {
         Ok(None) => 0,
@@ -170,7 +171,7 @@ fn number_in(answer: &Result<Option<Reply>, CoreFault>) -> u32 {
     }
 }
 
-// Whether a line that means one event gives this answer.
+// Whether a line that is a single event gives this answer.
 fn answers_one<B: Scripted>(
     alloc: Global,
     state: &mut State<B>,
@@ -184,7 +185,7 @@ fn answers_one<B: Scripted>(
     Ok(right)
 }
 
-// Whether the last event of a line gives this answer, and each before it gives no reply.
+// Whether the last event of a line gives this answer, and each event before it gives no reply.
 fn answers_line<B: Scripted>(
     alloc: Global,
     state: &mut State<B>,
@@ -203,8 +204,8 @@ fn answers_line<B: Scripted>(
     Ok(true)
 }
 
-/// Whether these events, one after the other, give these answers: 0 for no reply, 1 for done, otherwise the number of the refusal
-/// or the fault. If a line means several events, this is the answer of the last one, and each before it gives no reply.
+/// Whether these events, played in order, give these answers: 0 for no reply, 1 for done, otherwise the number of the refusal or the
+/// fault. If a line expands to several events, its answer is that of the last event, and each event before it gives no reply.
 pub fn answers<B: Scripted>(
     alloc: Global,
     state: &mut State<B>,

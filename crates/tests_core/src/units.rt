@@ -55,7 +55,7 @@ fn two_clients_add_one_name(rt: HostRuntime) -> Result<(), Fail> {
     passes(leaves(alloc, state, &TWO_CLIENTS, Some((FACTORIAL, 720))))
 }
 
-// A fault of a source, one of a function, and one of the map; then one unit in place of another, and then none.
+// A fault of a source, one of a function, and one of the map; then one unit replaces another, and then it is withdrawn.
 const REFUSED: [(Line, u32); 17] = [
     (Add(1, b'a', BROKEN), 0),
     (Begin(1), 5),
@@ -83,7 +83,7 @@ fn refused(rt: HostRuntime) -> Result<(), Fail> {
     passes(leaves(alloc, state, &REFUSED, Some((SEVEN, 42))))
 }
 
-// The unit is acknowledged; then another begins to take its place.
+// A unit is acknowledged; then the commit of its replacement begins.
 const REPLACED: [Line; 8] = [
     Put(1, 1, b'a', SEVEN),
     Replace(1, b'a', FACTORIAL),
@@ -95,14 +95,14 @@ const REPLACED: [Line; 8] = [
     WriteBody,
 ];
 
-// The state to which these events lead from a new one.
+// The state to which these events lead from a new state.
 fn played(alloc: Global, lines: &[Line]) -> Result<State<CcBuild>, Fail> {
     let events = events::<CcBuild>(alloc, lines)?;
     let state = State::new(alloc, CcBuild {}, 4000)?;
     Ok(run(alloc, state, events)?)
 }
 
-// The old unit stays if a crash comes before the gate is written, whichever bytes the disk had in flight.
+// The old unit stays if a crash comes before the gate is written, whichever bytes the crash leaves.
 #[test]
 fn crash_before_the_gate(rt: HostRuntime) -> Result<(), Fail> {
     let alloc = rt.alloc();
@@ -114,8 +114,7 @@ fn crash_before_the_gate(rt: HostRuntime) -> Result<(), Fail> {
     Ok(())
 }
 
-// A crash in the middle of writing the gate may leave either: the old unit if the byte left is not that of an open gate, otherwise the new
-// one.
+// A crash during the write of the gate leaves the new unit if the byte that it leaves is that of an open gate, and otherwise the old unit.
 #[test]
 fn crash_in_the_gate(rt: HostRuntime) -> Result<(), Fail> {
     let alloc = rt.alloc();

@@ -1,6 +1,6 @@
-// Tests of `cc_words` against values from outside: what `gcc -fwrapv` gives on x86-64 for the same expression of C at
-// `unsigned` and at `int`. A negative number is written as its word in two's complement. Each public function is called here,
-// and those that return `None` also at the ends of their ranges.
+// Tests of `cc_words` against values from outside: what the same C expression yields at `unsigned` and at `int`, compiled
+// with `gcc -fwrapv` on x86-64. A negative number is written as its word in two's complement. Each public function is called
+// here, and those that return `None` also at the ends of their ranges.
 
 use cc_words::{
     Binary, Unary, add, div_s, div_u, eq, le_s, le_u, lt_s, lt_u, mul, ne, rem_s, rem_u, shl,

@@ -54,7 +54,7 @@ fn nothing_where_they_are_the_same(rt: HostRuntime) -> Result<(), Fail> {
     Ok(())
 }
 
-// Whether the fault is that of the left library, and its number; else 0.
+// Whether the fault is the left library's, and its number; 0 if there is no fault.
 fn refused(alloc: Global, left: MemoryDisk, right: MemoryDisk) -> (bool, u32) {
     let (lines, disks) = diff_disks(alloc, left, right);
     drop(disks);

@@ -56,12 +56,12 @@ pub fn add(name: &[u8], unit: Arc<StoredUnit>) -> Result<LibraryCommand, Fail> {
     Ok(LibraryCommand::Add(Name::new(name)?, SharedUnit::new(unit)))
 }
 
-/// The command that gives a name another unit.
+/// The command that replaces the unit under a name.
 pub fn replace(name: &[u8], unit: Arc<StoredUnit>) -> Result<LibraryCommand, Fail> {
     Ok(LibraryCommand::Replace(Name::new(name)?, SharedUnit::new(unit)))
 }
 
-/// The command that withdraws a name.
+/// The command that withdraws the unit under a name.
 pub fn withdraw(name: &[u8]) -> Result<LibraryCommand, Fail> {
     Ok(LibraryCommand::Withdraw(Name::new(name)?))
 }

@@ -29,7 +29,7 @@ fn library(alloc: Global) -> Result<MemoryDisk, Fail> {
     with_commands(alloc, commands)
 }
 
-// What is written about what a unit takes, and the number of the refusal or 0.
+// What is written about how much memory a unit's image takes, and the number of the refusal or 0.
 fn measured(alloc: Global, name: &[u8], mode: Mode) -> Result<(Vec<u8>, u32), Fail> {
     let mut told = Vec::new(alloc);
     let (size, disk) = size_on(alloc, library(alloc)?, name, mode, &mut told);

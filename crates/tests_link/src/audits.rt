@@ -38,7 +38,7 @@ fn is_confirmed(alloc: Global, unit: &StoredUnit) -> Result<bool, Fail> {
     Ok(said(audit(alloc, unit.source.bytes(), Some(bytes), &unit.image)?) == "confirmed")
 }
 
-// What an audit says about the unit with another certificate.
+// What an audit says about the unit with this certificate in place of its own.
 fn with_certificate(
     alloc: Global,
     unit: &StoredUnit,
@@ -57,7 +57,7 @@ fn with_source(
     Ok(said(audit(alloc, text, Some(certificate), image)?))
 }
 
-// An image of these words.
+// The image with this code and these globals.
 fn image_of(alloc: Global, code: &[u32], globals: &[u32]) -> Result<Image, Fail> {
     let Ok(code) = Code::new(Vec::from_slice(alloc, code)?) else {
         return Err(Fail::from("no code"));
@@ -78,7 +78,7 @@ const BYTES: &str =
     "unsigned char c[2]={300,-1};int main(void){write_word(c[0]);write_word(c[1]);c[0]+=220;\
      write_word(c[0]);write_word(c[1]<<24);write_word(-1<c[1]);}";
 
-/// Texts of every kind: without a slot and with some, with loops, with calls, and with objects.
+/// Texts of every kind: without and with slots, with loops, with calls, and with objects.
 static TEXTS: [&str; 6] = [
     "int main(void){}",
     "int main(void){int i;for(i=0;i<9;i++)if(i%2)write_word(i*i);return i;}",
@@ -100,7 +100,7 @@ fn what_was_compiled(rt: HostRuntime) -> Result<(), Fail> {
     each_passes(rt.alloc(), TEXTS.as_slice(), is_confirmed_as_compiled)
 }
 
-// Whether an audit refuses the unit with the word of code at this place changed.
+// Whether an audit refuses the unit if the word of code at this place is changed.
 fn refuses_word(alloc: Global, unit: &StoredUnit, place: usize) -> Result<bool, Fail> {
     let mut code = Vec::from_slice(alloc, unit.image.code.words())?;
     if place < code.len() {
@@ -111,7 +111,7 @@ fn refuses_word(alloc: Global, unit: &StoredUnit, place: usize) -> Result<bool, 
     Ok(with_source(alloc, unit.source.bytes(), certificate, &image)? == "unconfirmed")
 }
 
-// Whether an audit refuses the unit with any one word in sixteen of its code changed.
+// Whether an audit refuses the unit if a word of its code is changed, for every sixteenth word.
 fn refuses_words(alloc: Global, unit: &StoredUnit) -> Result<bool, Fail> {
     for place in 0..unit.image.code.words().len() {
         if place % 16 == 0 && !refuses_word(alloc, unit, place)? {
@@ -129,7 +129,7 @@ fn a_word_of_code_changed(rt: HostRuntime) -> Result<(), Fail> {
     passes(right)
 }
 
-// Whether an audit refuses the unit with one word more in its globals, and with one word of them changed.
+// Whether an audit refuses the unit with one word added to its globals, and with one word of them changed.
 fn other_globals(alloc: Global, unit: &StoredUnit) -> Result<bool, Fail> {
     let certificate = certificate_of(unit)?;
     let mut more = Vec::from_slice(alloc, unit.image.globals.words())?;
@@ -150,7 +150,7 @@ fn globals_changed(rt: HostRuntime) -> Result<(), Fail> {
     passes(right)
 }
 
-// The certificate with another number of functions at its start.
+// The certificate with this number of functions at its start.
 fn with_count(alloc: Global, bytes: &[u8], count: u8) -> Result<Vec<u8>, Fail> {
     let mut other = Vec::from_slice(alloc, bytes)?;
     if other.is_empty() {
@@ -160,15 +160,15 @@ fn with_count(alloc: Global, bytes: &[u8], count: u8) -> Result<Vec<u8>, Fail> {
     Ok(other)
 }
 
-// The certificate with one more byte.
+// The certificate with this byte added at its end.
 fn with_byte(alloc: Global, bytes: &[u8], byte: u8) -> Result<Vec<u8>, Fail> {
     let mut other = Vec::from_slice(alloc, bytes)?;
     other.push(byte)?;
     Ok(other)
 }
 
-// Whether an audit refuses the unit with each of these certificates: one byte shorter, one longer, with another number of
-// functions, without a byte, with only its number of functions, and with wrong lengths; and whether it reports that a unit has
+// Whether an audit refuses the unit with each of these certificates: one byte shorter, one byte longer, with another number of
+// functions, empty, with only its number of functions, and with wrong lengths; and whether the audit reports that a unit has
 // no certificate.
 fn refuses_all(alloc: Global, unit: &StoredUnit) -> Result<bool, Fail> {
     let own = certificate_of(unit)?;
@@ -202,7 +202,7 @@ fn other_certificates(rt: HostRuntime) -> Result<(), Fail> {
     passes(refused)
 }
 
-// Whether an audit refuses the unit with the byte of the certificate at this place changed.
+// Whether an audit refuses the unit if the byte of the certificate at this place is changed.
 fn refuses_byte(alloc: Global, unit: &StoredUnit, own: &[u8], place: usize) -> Result<bool, Fail> {
     let mut other = Vec::from_slice(alloc, own)?;
     if place < other.len() {
@@ -211,7 +211,7 @@ fn refuses_byte(alloc: Global, unit: &StoredUnit, own: &[u8], place: usize) -> R
     Ok(with_certificate(alloc, unit, Some(other.as_slice()))? == "unconfirmed")
 }
 
-// Whether an audit refuses the unit with any one byte of its certificate changed.
+// Whether an audit refuses the unit if any one byte of its certificate is changed.
 fn refuses_bytes(alloc: Global, unit: &StoredUnit) -> Result<bool, Fail> {
     let own = certificate_of(unit)?;
     for place in 0..own.len() {
@@ -239,7 +239,7 @@ static STRANGERS: [&str; 5] = [
     "int main(void){return 1;}",
 ];
 
-// Whether an audit refuses each of these texts with a unit's certificate and image, and confirms the unit's own text with one
+// Whether an audit refuses each of `STRANGERS` with a unit's certificate and image, and confirms the unit's own text with one
 // more space.
 fn refuses_strangers(alloc: Global, unit: &StoredUnit) -> Result<bool, Fail> {
     let certificate = certificate_of(unit)?;
@@ -248,7 +248,7 @@ fn refuses_strangers(alloc: Global, unit: &StoredUnit) -> Result<bool, Fail> {
             return Ok(false);
         }
     }
-    // A space is not part of the program, but it makes another text.
+    // One more space does not change the program, but makes another text.
     Ok(with_source(alloc, b"int main(void){} ", certificate, &unit.image)? == "confirmed")
 }
 
@@ -260,7 +260,7 @@ fn other_texts(rt: HostRuntime) -> Result<(), Fail> {
     passes(right)
 }
 
-// Which part of a unit fails, as a word: for the text with its fault's number, for a function with the place of its name.
+// Which part of a unit fails, as a word; for the text also its fault's number, and for a function also the place of its name.
 fn part(failed: Option<FailedPart>) -> (&'static str, usize, usize) {
     match failed {
         None => ("none", 0, 0),
@@ -275,7 +275,7 @@ fn part(failed: Option<FailedPart>) -> (&'static str, usize, usize) {
     }
 }
 
-// The part that fails for a text with a unit's image and another certificate.
+// The part that fails for this text and certificate with a unit's image.
 fn failed_with(
     alloc: Global,
     unit: &StoredUnit,
@@ -287,7 +287,7 @@ fn failed_with(
     Ok(part(failed))
 }
 
-// Whether the part that fails is named: no part, the text, either function, the certificate and the image.
+// Whether the part that fails is named in each case: no part, the text, either function, the certificate, and the image.
 fn names_parts(alloc: Global, unit: &StoredUnit, other: &StoredUnit) -> Result<bool, Fail> {
     let own = certificate_of(unit)?;
     let shorter = &own[..own.len().saturating_sub(1)];
@@ -340,7 +340,7 @@ fn spilled_piece(alloc: Global, unit: &Arc<TypedUnit>, function: usize) -> Resul
     )?)
 }
 
-// A unit linked from such pieces.
+// A unit linked from pieces that have a slot for each value.
 fn spilled_unit(alloc: Global, text: &[u8]) -> Result<CompiledUnit, Fail> {
     let unit = typed_unit(alloc, text)?;
     let mut pieces = Vec::new(alloc);
@@ -359,14 +359,15 @@ fn is_confirmed_as_spilled(alloc: Global, text: &&'static str) -> Result<bool, F
     right
 }
 
-// Whether the compiler's own unit of that text differs from the spilled one, and is not confirmed by the other's certificate.
+// Whether the compiler's own unit of a text differs from the spilled one, and is not confirmed by the spilled unit's
+// certificate.
 fn is_another(alloc: Global, spilled: &StoredUnit, own: &StoredUnit) -> Result<bool, Fail> {
     let certificate = certificate_of(spilled)?;
     let word = with_source(alloc, LONG.as_bytes(), certificate, &own.image)?;
     Ok(word == "unconfirmed" && !own.is_same(spilled))
 }
 
-// An allocation that is not the compiler's own is confirmed too, and its code is different.
+// An allocation that is not the compiler's own is confirmed too, although its code differs.
 #[test]
 fn slots_for_all(rt: HostRuntime) -> Result<(), Fail> {
     each_passes(rt.alloc(), TEXTS.as_slice(), is_confirmed_as_spilled)?;
@@ -378,7 +379,7 @@ fn slots_for_all(rt: HostRuntime) -> Result<(), Fail> {
     passes(right)
 }
 
-// Whether a certificate is the number of functions, and for each function its length and the bytes of its LTL.
+// Whether a certificate has the number of functions, and then for each function the length and the bytes of its LTL.
 fn is_spelled(alloc: Global, unit: &StoredUnit, functions: usize) -> Result<bool, Fail> {
     let Some((prefix, mut rest)) = certificate_of(unit)?.split_at_checked(4) else {
         return Ok(false);

@@ -1,4 +1,4 @@
-// Checked images: each writes what its source writes until that goes wrong, and then loops for ever in place.
+// Checked images: each writes what its source writes until the source goes wrong, and then loops in place for ever.
 
 use super::helpers::{Run, ends_well, image_runs};
 use cc_link::{
@@ -9,7 +9,7 @@ use cc_rv32::outcome::MachineOutcome;
 use std::alloc::Global;
 use std::test::Fail;
 
-/// A text whose run goes wrong, its input, and the words that are written before that.
+/// A text whose run goes wrong, its input, and the words that the run writes before it goes wrong.
 static WRONG: [(&str, &[u32], &[i32]); 10] = [
     (
         "int a[3];int main(void){write_word(a[2]);write_word(a[3]);write_word(1);}",
@@ -27,7 +27,7 @@ static WRONG: [(&str, &[u32], &[i32]); 10] = [
         &[],
         &[7, 7],
     ),
-    // quotients: by 0, and the least number by -1
+    // quotients: division by 0, and of the least number by -1
     ("int main(void){write_word(5);write_word(1/0);}", &[], &[5]),
     (
         "int main(void){int m=read_word();int d=read_word();write_word(m/2);write_word(m%d);}",
@@ -40,7 +40,7 @@ static WRONG: [(&str, &[u32], &[i32]); 10] = [
         &[32],
         &[-2147483648],
     ),
-    // a value that nobody uses
+    // a value that is not used
     (
         "int a[2];int main(void){write_word(1);a[2];write_word(2);}",
         &[],

@@ -1,5 +1,5 @@
-// Comparisons with a constant: how many instructions they take, as a value and in a branch, and what they give at the edges of what an
-// instruction can hold.
+// Comparisons with a constant: how many instructions they take, as a value and in a branch, and what they yield for constants that
+// just fit in an instruction, or just do not.
 
 use super::helpers::{ends_well, runs};
 use cc_link::compile;
@@ -8,22 +8,22 @@ use std::test::Fail;
 use tests_texts::parts::text_of;
 use tests_texts::verdict::each_passes;
 
-/// The mask of the immediate, the function and the opcode of an instruction.
+/// The mask of an instruction's immediate, function and opcode.
 const IMMEDIATE: u32 = 0xfff0_707f;
 
-/// The mask of the functions, the first register and the opcode.
+/// The mask of an instruction's functions, first register and opcode.
 const FIRST: u32 = 0xfe0f_f07f;
 
-/// The mask of a branch's function, its first register and the opcode.
+/// The mask of a branch's function, first register and opcode.
 const BRANCH_FIRST: u32 = 0x000f_f07f;
 
-/// The mask of a branch's function, its second register and the opcode.
+/// The mask of a branch's function, second register and opcode.
 const BRANCH_SECOND: u32 = 0x01f0_707f;
 
-/// A condition on `a`, how many instructions it takes, and the mask and bits of one of them, taken from the tables of the
-/// standard: slti has opcode 0010011 and funct3 010, sltiu 011, xori 100, addi 000; slt has opcode 0110011, funct3 010 and
-/// funct7 0, sltu 011, here both with x0 first. A branch, which each condition has, has opcode 1100011, and funct3 is 000 for
-/// beq, 001 for bne, 100 for blt, 101 for bge. The mask is 0 if the constant is in a register.
+/// A condition on `a`, how many more instructions it takes than `a` alone, and the mask and bits of one of its instructions, taken
+/// from the tables of the standard: slti has opcode 0010011 and funct3 010, sltiu 011, xori 100, addi 000; slt has opcode 0110011,
+/// funct3 010 and funct7 0, sltu 011, here both with x0 first. A branch has opcode 1100011, and its funct3 is 000 for beq, 001 for
+/// bne, 100 for blt, 101 for bge. The mask is 0 if the constant is in a register.
 type Form = (&'static str, usize, u32, u32);
 
 /// Conditions as values.
@@ -49,8 +49,8 @@ static VALUES: [Form; 19] = [
     ("a<=4294967295u", 3, 0, 0),
 ];
 
-/// Conditions in a branch, which tests the opposite: on two registers, one of which has the constant if no instruction has room
-/// for it.
+/// Conditions in a branch, which tests the opposite. A branch compares two registers; one of them has the constant if it does not fit
+/// in an instruction.
 static BRANCHES: [Form; 17] = [
     ("a<10", 1, IMMEDIATE, 0x00a0_2013),
     ("a<=10", 1, IMMEDIATE, 0x00b0_2013),
@@ -84,7 +84,7 @@ fn instructions(alloc: Global, text: &[u8], mask: u32, bits: u32) -> Result<(usi
     Ok((count, has))
 }
 
-// The same as `instructions`, for a program that has a condition between two texts.
+// What `instructions` returns for a program with this condition between two texts.
 fn asked(
     alloc: Global,
     before: &str,
@@ -121,9 +121,9 @@ fn instructions_of_branches(rt: HostRuntime) -> Result<(), Fail> {
     })
 }
 
-/// A type, a constant, the words of the input, the first of which is how many more there are, and how each of those compares
-/// with the constant: the sum of 1 for <, 2 for <=, 4 for >, 8 for >=, 16 for ==, and 32 for !=. So a smaller word gives 35, an
-/// equal one 26, and a greater one 44 (C99 6.5.8, 6.5.9).
+/// A type, a constant, the words of the input, the first of which says how many more there are, and how each of these compares with
+/// the constant: the sum of 1 for <, 2 for <=, 4 for >, 8 for >=, 16 for ==, and 32 for !=. So a smaller word yields 35, an equal word
+/// 26, and a greater word 44 (C99 6.5.8, 6.5.9).
 type Edge = (&'static str, &'static str, &'static [u32], &'static [i32]);
 
 static EDGES: [Edge; 19] = [

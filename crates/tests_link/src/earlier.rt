@@ -1,4 +1,5 @@
-// What remains of texts from before there were arrays of `unsigned char`: the contracts are the laws, and the calls do nothing.
+// Texts from before there were arrays of `unsigned char` keep their meaning: the contracts of these calls are the laws, and the
+// calls do nothing.
 
 use cc_earlier::{earlier_images_agree, earlier_texts_stay};
 

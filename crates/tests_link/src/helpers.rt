@@ -1,4 +1,4 @@
-// A text compiled, and what its image does.
+// Compiles a text, and runs its image.
 
 use cc_link::{CompiledUnit, compile};
 use cc_rv32::machine::Machine;
@@ -6,7 +6,8 @@ use cc_rv32::outcome::MachineOutcome;
 use std::alloc::Global;
 use std::test::Fail;
 
-/// A run: its input, how many instructions it may take, the words that it writes, and its outcome.
+/// A run: its input, the largest number of instructions to execute, the words that it writes, and its
+/// outcome.
 #[derive(Clone, Copy)]
 pub struct Run<'a> {
     pub input: &'a [u32],
@@ -15,7 +16,7 @@ pub struct Run<'a> {
     pub outcome: MachineOutcome,
 }
 
-/// A run that reads `input`, takes at most `steps` instructions, writes `words`, and ends with 0.
+/// A run that reads `input`, executes at most `steps` instructions, writes `words`, and ends with 0.
 pub fn ends_well<'a>(input: &'a [u32], steps: u64, words: &'a [i32]) -> Run<'a> {
     Run {
         input,

@@ -1,7 +1,7 @@
 //! Tests of the compiler from text to run: the worked rows, the pieces of a unit in every order, each refusal, the limits,
-//! comparisons with constants, and eight programs whose words are gcc's. `audits` has the tests of the audit, `checked` those
-//! of checked images, `sizes` those of what units take, `stages` those of what is shown of each stage, `watched` what a watcher
-//! of the passes sees and refuses, `memory` what a refused allocation leaves.
+//! comparisons with constants, and eight programs that write the same words as when gcc compiles them. `audits` tests the
+//! audit, `checked` tests checked images, `sizes` tests what units take, `stages` tests what is shown of each stage, `watched`
+//! tests what a watcher of the passes sees and refuses, and `memory` tests what a refused allocation leaves.
 #![tactic(auto)]
 
 #[cfg(test)]

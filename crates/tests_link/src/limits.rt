@@ -14,7 +14,7 @@ use tests_texts::parts::{main_of, text_of};
 use tests_texts::verdict::{each_passes, passes};
 use tests_texts::worked::LONG;
 
-// Whether a text writes only that word, without input and within this many instructions, and ends with 0.
+// Whether a text writes only this word, without input and within this many instructions, and ends with 0.
 fn writes_one(alloc: Global, text: Vec<u8>, word: i32, steps: u64) -> Result<bool, Fail> {
     let words = [word];
     let run = ends_well(&[], steps, words.as_slice());
@@ -23,8 +23,8 @@ fn writes_one(alloc: Global, text: Vec<u8>, word: i32, steps: u64) -> Result<boo
     right
 }
 
-// 1,023 calls of `f` within one another, and `main`: f(n) = f(n - 1) + 250 n + 31,125 and f(0) = 7, so f(1022) is
-// 7 + 250 * 522,753 + 31,125 * 1,022.
+// 1,023 nested calls of `f`, and `main`: f(n) = f(n - 1) + 250 n + 31,125 and f(0) = 7, so f(1022) is 7 + 250 * 522,753 +
+// 31,125 * 1,022.
 #[test]
 fn most_calls_with_large_frames(rt: HostRuntime) -> Result<(), Fail> {
     let text = deep(rt.alloc())?;
@@ -38,7 +38,7 @@ fn most_functions(rt: HostRuntime) -> Result<(), Fail> {
     passes(writes_one(rt.alloc(), text, 2_016, 100_000))
 }
 
-/// Loops that never end, and how many instructions each may take.
+/// Loops that never end, and how many instructions of each are executed.
 type Endless = (&'static str, u64);
 
 static ENDLESS: [Endless; 8] = [
@@ -89,7 +89,7 @@ fn writes_zeros(alloc: Global, row: &Main) -> Result<bool, Fail> {
     right
 }
 
-// How many words of code the linked image has, and whether it has this run; none if it is too large.
+// How many words of code the linked image has, and whether it has this run, or `None` if the image is too large.
 fn words_of(
     alloc: Global,
     linked: Result<CompiledUnit, LinkFault>,
@@ -107,7 +107,7 @@ fn words_of(
     }
 }
 
-// The number of the image's words, and whether it runs right, with `third` moves before the third block of `main`, and 60,000
+// The number of words in the image, and whether it runs right, with `third` moves before the third block of `main` and 60,000
 // before each of the first two.
 fn long_main(
     alloc: Global,
@@ -141,11 +141,11 @@ fn most_words_of_code(rt: HostRuntime) -> Result<(), Fail> {
     passes(right)
 }
 
-// A loop with three turns, whose inner part runs once, with a branch over each part and a jump back.
+// A loop with three turns, in which the inner part runs once, with a branch over each part and a jump back.
 const LOOP: &str =
     "int x;int main(void){int i;for(i=0;i<3;i++)if(i==1){x=x+5;}else x=x+1000;write_word(x);}";
 
-// Whether the image runs right with this many moves before that block.
+// Whether the image runs right with this many moves before this block.
 fn runs_padded(
     alloc: Global,
     unit: &Arc<TypedUnit>,
@@ -157,8 +157,8 @@ fn runs_padded(
     Ok(matches!(words_of(alloc, linked, run)?, Some((_, true))))
 }
 
-// Whether the image runs right with each number of moves near the one at which branches over the block begin to be too short:
-// they reach 1,023 words forward and 1,024 back.
+// Whether the image runs right with each number of moves close to the one at which branches over the block no longer reach far
+// enough: a branch reaches 1,023 words forward and 1,024 back.
 fn runs_near_and_far(alloc: Global, unit: &Arc<TypedUnit>, block: usize) -> Result<bool, Fail> {
     for moves in 980..1_028 {
         if !runs_padded(alloc, unit, block, moves)? {
@@ -168,7 +168,7 @@ fn runs_near_and_far(alloc: Global, unit: &Arc<TypedUnit>, block: usize) -> Resu
     Ok(true)
 }
 
-// The same for three blocks, within the inner part and around it.
+// Whether `runs_near_and_far` is true of three blocks, within the inner part and around it.
 fn all_run(alloc: Global, unit: &Arc<TypedUnit>) -> Result<bool, Fail> {
     let count = blocks(alloc, unit, 0)?;
     Ok(

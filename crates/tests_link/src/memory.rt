@@ -1,5 +1,5 @@
 // Compilations while an allocation is refused. `tests/outside/memory.sh compile` refuses each allocation of this test in turn,
-// so there is one test for all.
+// so a single test covers them all.
 
 use cc_link::{CompiledUnit, compile};
 use std::alloc::Global;
@@ -22,7 +22,7 @@ fn every_growth_of_compile(rt: HostRuntime) -> Result<(), Fail> {
     passes(Ok(right))
 }
 
-// The program's unit, or the number that it is refused with.
+// The program's unit, or the number with which the program is refused.
 fn compiled(alloc: Global) -> Result<CompiledUnit, u32> {
     match compile(alloc, REGS.as_bytes()) {
         Ok(unit) => Ok(unit),

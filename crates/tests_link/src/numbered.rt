@@ -18,7 +18,7 @@ fn append_number(
     done
 }
 
-// Adds the part once for each of these numbers.
+// Adds the part to a text once for each of these numbers.
 fn append_numbers(
     alloc: Global,
     text: &mut Vec<u8>,
@@ -43,8 +43,8 @@ pub fn deep(alloc: Global) -> Result<Vec<u8>, AllocError> {
     Ok(text)
 }
 
-/// 63 functions, each of which adds 1 to an object and returns it, and `main`, the 64th, which writes the sum of what one call
-/// of each returns.
+/// 63 functions, each of which adds 1 to an object and returns it, and `main`, the 64th, which calls each of them once and
+/// writes the sum of the results.
 pub fn many(alloc: Global) -> Result<Vec<u8>, AllocError> {
     let mut text = Vec::new(alloc);
     append(&mut text, "int x;", 1)?;

@@ -1,4 +1,4 @@
-// The pieces of a unit, linked in every order and from wrong lists.
+// The pieces of a unit, linked in every order, and wrong lists of pieces.
 
 use super::helpers::{Run, ends_well, image_runs};
 use super::rows::{QUOTIENTS, WORDS};
@@ -63,7 +63,7 @@ fn linked(
     made
 }
 
-// Whether those pieces make the same unit as all pieces in their own order.
+// Whether the pieces at these places make the same unit as all pieces in order.
 fn is_same(
     alloc: Global,
     unit: &Arc<TypedUnit>,
@@ -77,7 +77,7 @@ fn is_same(
     Ok(same)
 }
 
-/// The answer for a list of pieces, with the function's number and its piece's place in the list.
+/// The answer for a list of pieces, with the number of the function and the place of its piece in the list.
 #[derive(Clone, Copy, PartialEq)]
 enum Answer {
     Image,
@@ -100,14 +100,14 @@ fn answer_for(alloc: Global, unit: &Arc<TypedUnit>, pieces: &[Piece], places: &[
     }
 }
 
-/// Lists of pieces and their answers. Pieces 0 and 1 are those of the unit with 24 locals, 2 the `main` of another text, 3 and
-/// 4 those of a second unit that has the first one's text.
+/// Lists of pieces and their answers. Pieces 0 and 1 are those of the unit with 24 locals, piece 2 is the `main` of another
+/// text, and pieces 3 and 4 are those of a second unit with the text of the first.
 static LISTS: [(&[usize], Answer); 17] = [
     (&[0, 1], Answer::Image),
     (&[1, 0], Answer::Image),
     (&[3, 1], Answer::Image),
     (&[4, 0], Answer::Image),
-    // a piece that is there twice: the first one that repeats an earlier one
+    // a piece that occurs twice: the answer names the first repetition
     (&[0, 0], Answer::Doubled(0, 1)),
     (&[0, 1, 0], Answer::Doubled(0, 2)),
     (&[1, 0, 1, 0], Answer::Doubled(1, 2)),
@@ -125,7 +125,7 @@ static LISTS: [(&[usize], Answer); 17] = [
     (&[1, 2, 1], Answer::Stranger(0, 1)),
 ];
 
-// Whether each of the lists gets its answer.
+// Whether each of `LISTS` gets its answer.
 fn are_answered(alloc: Global, unit: &Arc<TypedUnit>, pieces: &[Piece]) -> bool {
     for (places, answer) in LISTS.iter() {
         if answer_for(alloc, unit, pieces, places) != *answer {
@@ -153,7 +153,7 @@ fn lists_of_pieces(rt: HostRuntime) -> Result<(), Fail> {
     passes(Ok(right))
 }
 
-// The unit with 24 locals: its two pieces are made and handed over in reverse order.
+// The unit with 24 locals, with its two pieces made and handed over in reverse order.
 fn reversed(alloc: Global) -> Result<CompiledUnit, Fail> {
     let unit = typed_unit(alloc, LONG.as_bytes())?;
     let mut pieces = Vec::new(alloc);
@@ -174,7 +174,7 @@ fn function_by_function(rt: HostRuntime) -> Result<(), Fail> {
     passes(Ok(right && kept))
 }
 
-/// Four functions, each of which calls others, before and after it.
+/// Four functions that call one another, also functions that are defined later.
 const FOUR: &str =
     "int c(int);int a[3]={1,2,3};int b(int n){a[1]=n;return n*2+c(1);}int c(int n){if(n>3)return a[1];return c(n+1)+a[2];}void d(int n){write_word(n-b(n));}int main(void){d(7);write_word(c(2));return b(1);}";
 
@@ -215,7 +215,7 @@ const FOUR_RUN: Run<'static> = Run {
     outcome: MachineOutcome::Exited(12),
 };
 
-// Whether the pieces make the same unit in each order, and its image runs.
+// Whether the pieces make the same unit in each order, and its image runs right.
 fn are_same(
     alloc: Global,
     unit: &Arc<TypedUnit>,

@@ -1,5 +1,5 @@
-// Code of any length: the allocation of a function, with moves before its blocks that nobody needs. Each becomes one word of
-// code, and the validator accepts them, since no value lies in the registers between which they move.
+// Code of any length: the allocation of a function, with needless moves before its blocks. Each move becomes one word of
+// code, and the validator accepts the moves, since the registers that they use have no value in them.
 
 use super::orders::piece;
 use cc_cminor::to_cminor;
@@ -16,7 +16,7 @@ use std::alloc::Global;
 use std::sync::Arc;
 use std::test::Fail;
 
-/// How many further moves there are before a block, and the place of the block, counted from 0.
+/// The place of a block, counted from 0, and how many moves are added before it.
 pub type Padding = (usize, usize);
 
 fn padding_of(paddings: &[Padding], place: usize) -> usize {
@@ -77,7 +77,7 @@ fn rtl_of(alloc: Global, unit: &Arc<TypedUnit>, function: usize) -> Result<RtlPa
     Ok(to_rtl(alloc, cminor)?)
 }
 
-// The allocation of one function that `spill_all` gives, with these paddings.
+// The allocation that `spill_all` makes for one function, with these paddings.
 fn allocated(
     alloc: Global,
     unit: &Arc<TypedUnit>,
@@ -115,7 +115,7 @@ fn padded_piece(
     Ok(emit(alloc, selected)?)
 }
 
-/// A unit whose last function has these paddings, linked.
+/// Links a unit whose last function has these paddings.
 pub fn padded(
     alloc: Global,
     unit: &Arc<TypedUnit>,

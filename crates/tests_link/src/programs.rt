@@ -1,4 +1,4 @@
-// The programs of `bench/programs` write what gcc's programs write.
+// The programs of `bench/programs` write the same words as when gcc compiles them.
 
 use super::helpers::{ends_well, runs};
 use std::alloc::Global;

@@ -1,4 +1,4 @@
-// What `compile` refuses, and at which place; and that a text leads to one program or one fault.
+// What `compile` refuses, and at which place. A text leads to one program or one fault.
 
 use cc_link::{BuildFault, PieceFault, compile, verdicts_are_determined};
 use std::alloc::Global;
@@ -6,7 +6,7 @@ use std::test::Fail;
 use tests_texts::parts::{Part, text_of};
 use tests_texts::verdict::{each_passes, passes};
 
-/// A text, the number of its fault, and its line and column.
+/// A text, the number of its fault, and the fault's line and column.
 type Row = (&'static str, u32, usize, usize);
 
 static TEXTS: [Row; 29] = [
@@ -48,14 +48,14 @@ static TEXTS: [Row; 29] = [
         5,
     ),
     ("int a[65536];int b;int main(void){}", 21, 1, 18),
-    // of several faults, the one that comes first
+    // of several faults, the first one
     ("int main(void){return 1 2;} 08 $", 3, 1, 29),
     ("int main(void){y=1;return 1 2;}", 5, 1, 29),
     ("int main(void){y=1;x=2;}", 11, 1, 16),
 ];
 
-// The number of a text's fault with its line and column. The number is 0 if the text is compiled, and the place is 0 if the
-// fault has none.
+// The number of a text's fault, with the fault's line and column. The number is 0 if the text is compiled; line and column
+// are 0 if the fault has no place.
 fn fault_of(alloc: Global, text: &[u8]) -> (u32, usize, usize) {
     match compile(alloc, text) {
         Ok(unit) => {
@@ -112,9 +112,9 @@ fn is_too_large(alloc: Global, row: &Large) -> Result<bool, Fail> {
     Ok(refused)
 }
 
-/// The parts of texts with a function of more than 4,096 nodes, the offset of its name, and the name's length: a write takes
-/// three nodes, and each function three more. If there are several such functions, the first is named; no function before it
-/// prevents that.
+/// The parts of a text with a function of more than 4,096 nodes, the offset of the function's name, and the name's length. A
+/// write takes three nodes, and each function takes three more. If there are several such functions, the first one is named,
+/// even if other functions come before it.
 type Large = (&'static [Part<'static>], usize, usize);
 
 static LARGE: [Large; 4] = [

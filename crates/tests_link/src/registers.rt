@@ -1,4 +1,4 @@
-// Values in registers and in slots; nothing is computed that nothing needs.
+// Values in registers and in slots. What nothing needs is not computed.
 
 use super::helpers::{ends_well, runs};
 use super::numbered::summed;
@@ -37,7 +37,7 @@ fn is_product(word: u32) -> bool {
     word & 0xfe00_707f == 0x0200_0033
 }
 
-// Whether this many instructions of a text's image are mul.
+// Whether a text's image has this many mul instructions.
 fn has_products(alloc: Global, row: &Row) -> Result<bool, Fail> {
     let unit = compile(alloc, row.0.as_bytes())?;
     let mut count = 0usize;
@@ -50,7 +50,8 @@ fn has_products(alloc: Global, row: &Row) -> Result<bool, Fail> {
     Ok(count == row.1)
 }
 
-/// Texts, and how many products are left in their code: values that nothing needs are gone, and so is what only they read.
+/// Texts, and how many products are left in their code: values that nothing needs are gone, and so are values that only
+/// these need.
 type Row = (&'static str, usize);
 
 static PRODUCTS: [Row; 4] = [

@@ -15,8 +15,8 @@ pub const WORDS: &[u32] = &[
     1, 2, 3, 4, 5, 6, 7, 8, 9, 10, 11, 12, 13, 14, 15, 16, 17, 18, 19, 20, 21, 22, 23, 24,
 ];
 
-/// Functions that return before they have a frame, after a test of a word, of two words, or of a word and a constant; some
-/// have an operation before the test, or one after the label to which it leads.
+/// Functions that return before they have a frame, after a test of a word, of two words, or of a word and a constant; some have
+/// an operation before the test, or after the label to which the test leads.
 const RETURNING: &str = "int g(int x){return x*3;}int a(int x,int y){if(!x)return y;return g(y)+x;}\
     int b(int x,int y){if(x<y)return x+1;return g(x)-g(y);}\
     int c(unsigned x,unsigned y){if(x>=7u)return 3;return g(y)+c(x+1u,y);}\
@@ -26,7 +26,7 @@ const RETURNING: &str = "int g(int x){return x*3;}int a(int x,int y){if(!x)retur
 
 const ENDED: MachineOutcome = MachineOutcome::Exited(0);
 
-/// A program, its input, how many instructions it may take, the words that it writes, and its outcome.
+/// A program, its input, the largest number of instructions to execute, the words that the program writes, and its outcome.
 type Row = (
     &'static str,
     &'static [u32],
@@ -112,8 +112,8 @@ static ROWS: [Row; 19] = [
         &[-1, 0],
         MachineOutcome::Exited(3),
     ),
-    // further programs, whose words follow from the rules: short cuts, an inner name, globals, a loop that is left and one that
-    // is continued
+    // further programs, whose words follow from the rules: operands that are not evaluated, an inner name, globals, `break` and
+    // `continue`
     (
         "int n;int f(void){n=n+1;return n;}int main(void){write_word(0&&f());write_word(1||f());write_word(f()&&0);write_word(n);}",
         &[],

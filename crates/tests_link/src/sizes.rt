@@ -1,4 +1,4 @@
-// What units take: how many calls are open at most, and how much stack that takes.
+// What units take: how many calls are open at most, and how much stack these calls take.
 
 use cc_link::Mode;
 use cc_size::{Sized, UnitSize, size_along_in, size_in};
@@ -58,7 +58,8 @@ fn a_function_that_calls_itself(rt: HostRuntime) -> Result<(), Fail> {
     Ok(())
 }
 
-// Whether a unit that was made in mode `made` is measured in mode `asked` from its certificate, with the same stack.
+// Whether a unit that was made in mode `made` can be measured in mode `asked` from its certificate, with the same
+// stack.
 fn measured_again(alloc: Global, made: Mode, asked: Mode) -> Result<bool, Fail> {
     let sized = size_in(alloc, made, CHAIN.as_bytes())?;
     let stack = sized.size.stack;

@@ -20,9 +20,9 @@ use tests_texts::worked::LONG;
 const FORMS: &str =
     "unsigned char c[2];int a[3];int f(int n,int k){do n=n+1;while(n>=k);do a[n&1]=c[1];while(n<=0);c[0]=a[2];c[0]=c[k-8];a[k-7]=n;if(n<k)return n<<3;return -n;}int main(void){write_word(f(read_word(),9));}";
 
-/// The steps of that function. The word of each constant is in the operation that reads it; an access to an element of known
-/// number has the number; one whose number is a difference with a word has the register and the word's negative; and a
-/// comparison and the test of its value are one branch.
+/// The steps of the function in `FORMS`. Each constant is in the operation that reads it. An access to an element with a
+/// known index has the index; an access whose index is a register minus a constant has the register and the constant's
+/// negative. A comparison and the test of its value are one branch.
 const FORMS_SELECTED: &str = "== f: Selected
 f0 slots 0
 1:
@@ -48,7 +48,7 @@ f0 slots 0
 
 static PROGRAMS: [&str; 10] = [LONG, FORMS, CRC, FIB, GCD, MATMUL, NEST, REGS, SIEVE, SORT];
 
-// What is written about the functions of a text, or about one of them, and the number of the fault, or 0.
+// What is written about the functions of a text, or about one of them, and the number of the fault, or 0 if there is none.
 #[derive(Drop)]
 struct Written {
     text: Vec<u8>,
@@ -124,7 +124,7 @@ fn each_form_of_step(rt: HostRuntime) -> Result<(), Fail> {
     passes(Ok(right))
 }
 
-// The labels of a stage: those that its code leads to, and those that it has.
+// The labels of a stage: those that its code leads to, and those that its lines begin with.
 #[derive(Drop)]
 struct Labels {
     named: Vec<u32>,
@@ -161,13 +161,13 @@ impl Labels {
         Ok(())
     }
 
-    // Whether each label that is named is there.
+    // Whether each label that the code leads to begins some line.
     fn all_stand(&self) -> bool {
         self.named.iter().all(|label| self.standing.contains(label))
     }
 }
 
-// How many stages of a text there are, and in how many of them some label is named that is not there.
+// How many stages a text has, and how many of them lack a label that their code leads to.
 fn stages_lacking_labels(alloc: Global, text: &str) -> Result<(usize, usize), Fail> {
     let (mut count, mut lacking) = (0usize, 0usize);
     let mut labels = Labels::new(alloc);
@@ -213,7 +213,7 @@ fn code_lines(alloc: Global, text: &str) -> Result<Vec<u8>, AllocError> {
     Ok(lines)
 }
 
-// A listing after its first three lines, which are the start.
+// A listing after its first three lines, which are the start code.
 fn behind_start(listing: &[u8]) -> &[u8] {
     let mut left = 3u32;
     for at in 0..listing.len() {
@@ -227,7 +227,7 @@ fn behind_start(listing: &[u8]) -> &[u8] {
     b""
 }
 
-// Whether the code in the stages of a program is its image's listing.
+// Whether the code in the stages of a program is the same as the listing of its image.
 fn code_is_listing(alloc: Global, program: &&'static str) -> Result<bool, Fail> {
     let found = shown(alloc, program.as_bytes(), None)?;
     let lines = code_lines(alloc, str::from_utf8(found.text.as_slice())?)?;
@@ -267,7 +267,7 @@ static LARGE: [Part<'static>; 3] = [
     ("}", 1),
 ];
 
-// Whether the stages of that text's functions, or of one of them, end with `end` and fault 22.
+// Whether the stages of the functions of `LARGE`, or of one of them, end with `end` and fault 22.
 fn ends_large(alloc: Global, function: Option<&[u8]>, end: &str) -> Result<bool, Fail> {
     let text = text_of(alloc, LARGE.as_slice())?;
     let found = shown(alloc, text.as_slice(), function);

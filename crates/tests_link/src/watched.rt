@@ -10,11 +10,11 @@ use tests_texts::verdict::each_passes;
 /// A function that has guards.
 const QUOTIENT: &str = "int main(void){write_word(7/read_word());}";
 
-// Sees this many stages, and refuses the next.
+// Sees this many stages, and refuses the next one.
 #[derive(Drop)]
 struct Few {
     left: u32,
-    // The last stage that it saw, as a letter.
+    // The last stage that was seen, as a letter.
     last: u8,
 }
 
@@ -41,8 +41,8 @@ impl Watch for Few {
     }
 }
 
-// The last stage of the first function that is seen by a watcher that accepts `count` stages, and the number that the function
-// is refused with, or 0.
+// Compiles the first function with a watcher that accepts `count` stages. Returns the last stage that the watcher saw, and the
+// number with which the function is refused, or 0.
 fn seen_last(alloc: Global, mode: Mode, unit: &Arc<TypedUnit>, count: u32) -> (u8, u32) {
     let mut few = Few {
         left: count,

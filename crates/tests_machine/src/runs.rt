@@ -164,7 +164,7 @@ static SHIFTS: [(ShiftOperation, u32, u8, u32); 7] = [
     (ShiftOperation::Srai, 0x81818181, 7, 0xff030303),
 ];
 
-// What each load gives at an offset from the globals 0ff000ff and f00f0ff0, or a trap.
+// What each load gives at an offset into the globals, which hold the words 0ff000ff and f00f0ff0; `None` is a trap.
 static LOADS: [(LoadOperation, u32, Option<u32>); 16] = [
     (LoadOperation::Lb, 0, Some(0xffffffff)),
     (LoadOperation::Lb, 1, Some(0)),
@@ -184,7 +184,7 @@ static LOADS: [(LoadOperation, u32, Option<u32>); 16] = [
     (LoadOperation::Lw, 0xfffffffc, None),
 ];
 
-// What the first global, 0ff000ff, is after 12345678 was stored at an offset, or a trap.
+// What the first global, 0ff000ff at first, holds once 12345678 has been stored at an offset; `None` is a trap.
 static STORES: [(StoreOperation, u32, Option<u32>); 8] = [
     (StoreOperation::Sb, 0, Some(0x0ff00078)),
     (StoreOperation::Sb, 3, Some(0x78f000ff)),
@@ -413,7 +413,7 @@ fn shown(machine: &mut Machine, steps: u64) -> Result<(MachineOutcome, Option<u3
     Ok((outcome, machine.output().first().copied()))
 }
 
-// The same after two runs, of `before` and of `steps` instructions.
+// As `shown`, after two runs, of `before` and of `steps` instructions.
 fn shown_twice(
     machine: &mut Machine,
     before: u64,

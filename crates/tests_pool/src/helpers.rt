@@ -31,7 +31,7 @@ pub fn repeat(text: &mut Vec<u8>, part: &[u8], times: usize) -> Result<(), Alloc
     Ok(())
 }
 
-/// Whether these are exactly this many pieces of a text, one for each function in their order.
+/// Whether these are exactly this many pieces of a text, one for each function, in order.
 pub fn are_of(pieces: &[Piece], text: &[u8], count: usize) -> bool {
     let mut right = pieces.len() == count;
     for (at, piece) in pieces.iter().enumerate() {

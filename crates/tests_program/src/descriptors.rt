@@ -10,7 +10,7 @@ const READ: Use = Use::StandIn(Access::Reading);
 
 const WRITTEN: Use = Use::StandIn(Access::Writing);
 
-// What is found, and what it is afterwards.
+// What the descriptors are used for at the start, and what they are used for afterwards.
 fn rows() -> [([Use; 3], [Use; 3]); 8] {
     [
         ([GIVEN, GIVEN, GIVEN], [GIVEN, GIVEN, GIVEN]),

@@ -19,7 +19,7 @@ fn texts_of(alloc: Global, given: &[(&str, &str)]) -> Result<Vec<NamedText>, All
     Ok(texts)
 }
 
-// Texts, and the text that they make together.
+// Texts, and the text that they are joined to.
 static JOINED: [(&[(&str, &str)], &str); 9] = [
     (&[], ""),
     (&[("a", "x")], "x"),
@@ -155,7 +155,7 @@ fn explained_texts(rt: HostRuntime) {
     }
 }
 
-// Whether two texts of this many bytes together, all spaces except a program, are answered with this line.
+// Whether a text of `spaces` newlines, followed by one with a program, is answered with this line.
 fn answers_long<H: AllocGlobal>(rt: &H, spaces: usize, wanted: &[u8], told: &[u8]) -> bool {
     let Ok(mut texts) = texts_of(rt.alloc(), &[("A.c", ""), ("B.c", "int main(void){}")]) else {
         return false;

@@ -1,6 +1,7 @@
-//! Tests of the program's work: texts at their limits, texts that are refused, small programs, images as text, stages, what is taken out of a
-//! library, command lines, what is explained, counts, and readers and writers that fail, over readers, writers and disks in memory. Expected lines
-//! come from the language's rules, worked by hand.
+//! Tests of the program's work: texts at their limits, texts that are refused, small programs, images as
+//! text, stages, what is taken out of a library, command lines, what is explained, counts, and failing
+//! readers and writers. All readers, writers and disks are in memory. Expected lines come from the language's
+//! rules, worked by hand.
 #![tactic(auto)]
 
 #[cfg(test)]

@@ -1,4 +1,4 @@
-// Texts at the limits and past them, and texts that are no programs.
+// Texts at the limits and past them, and texts that are not programs.
 
 use super::helpers::{checks, checks_parts, interprets};
 use std::alloc::{AllocError, Global};

@@ -13,7 +13,7 @@ use std::sync::Arc;
 use std::test::Fail;
 use tests_texts::streams::Refuses;
 
-/// A source that is no program, with a byte that is no letter and no newline at its end.
+/// A source that is not a program: it has bytes that are not characters, and does not end with a newline.
 static SOURCE: &[u8] = b"int\r\n\0\xff main";
 
 /// Two words of code, one of globals: the text of an image with them.
@@ -163,7 +163,7 @@ fn names_that_are_none(rt: HostRuntime) -> Result<(), Fail> {
     Ok(())
 }
 
-// If the opening refuses the disk, this comes first, before a refusal of bytes that are no name.
+// If the opening refuses the disk, this comes first, before a refusal of bytes that are not a name.
 #[test]
 fn disks_that_are_refused(rt: HostRuntime) -> Result<(), Fail> {
     let alloc = rt.alloc();

@@ -84,7 +84,8 @@ static PROGRAMS: [(&str, u64, &str); 31] = [
         9,
         "44\n255\n8\n-16777216\n1\nended 0\n",
     ),
-    // with an index that is no constant; `-1` becomes unsigned together with `1u`, and stays `int` together with a promoted byte
+    // with an index that is not a constant; `-1` becomes unsigned together with `1u`, and stays `int` together with a promoted
+    // byte
     (
         "unsigned char c[5];int main(void){int i,n=1,s=0;for(i=0;i<5;i++)c[i]=i*70;for(i=0;i<5;i++){c[i]/=2u;write_word(c[i]);s+=c[i]+((n?c[i]:1u)>-1);}write_word(s);return (n?c[4]:1)>-1;}",
         100,

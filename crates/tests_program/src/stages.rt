@@ -137,7 +137,7 @@ fn unknown_functions(rt: HostRuntime) {
     }
 }
 
-// A declaration is no function.
+// A function that is only declared has no stages.
 #[test]
 fn a_function_that_is_only_declared(rt: HostRuntime) {
     let found = show_stages(&rt, b"int f(void);int main(void){}", Some(b"f"));

@@ -34,7 +34,7 @@ fn stages_of_functions(rt: HostRuntime) {
     }
 }
 
-// Command lines that ask for the unit `quotient` of `units.disk`, and for which part.
+// Command lines that ask for a part of the unit `quotient` of `units.disk`, and the part.
 static UNITS: [(&[&str], Part); 3] = [
     (&["cclib", "image", "units.disk", "quotient"], Part::Image),
     (

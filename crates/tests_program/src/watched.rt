@@ -4,7 +4,7 @@ use crate::words::are_refused;
 use cc_command_line::{Covered, Work, read_invocation};
 use std::alloc::Global;
 
-// Whether a command line asks for JSON; none if it is refused.
+// Whether a command line asks for JSON; `None` if it is refused.
 fn asks_for_json(alloc: Global, words: &'static [&'static str]) -> Option<bool> {
     match read_invocation(alloc, words) {
         Ok(invocation) => {
@@ -62,8 +62,8 @@ fn json_words(rt: HostRuntime) {
     assert!(rt; are_refused(rt.alloc(), NO_JSON.as_slice()));
 }
 
-// How many things a command line asks `trace` to keep, for how many steps and words, in how many files; none if it asks for no
-// trace.
+// How many things a command line asks `trace` to keep, for how many steps and words, in how many files; `None` if it does not
+// ask for a trace.
 fn traced(alloc: Global, words: &'static [&'static str]) -> Option<(u64, usize, u32, usize)> {
     match read_invocation(alloc, words) {
         Ok(invocation) => {

@@ -122,7 +122,7 @@ static TASKS: [Asked; 17] = [
     ),
 ];
 
-// What a task is, as the last five parts of such a row.
+// The last five parts of the row (`Asked`) for a task.
 fn parts_of(task: &Task) -> (&'static str, Kind, bool, u64, &[u32]) {
     match task {
         Task::Check => ("check", Kind::Plain, false, 0, &[]),

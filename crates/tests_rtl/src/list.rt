@@ -5,85 +5,219 @@ use cc_instr_list::InstrList;
 use std::rc::Rc;
 use std::string::String;
 use std::test::*;
+use tests_texts::verdict::{passes, row_passes};
 
-// The labels and items of a list, from its first one on.
-fn forward(rt: &HostRuntime, list: &InstrList<u32>) -> Result<Vec<(u32, u32)>, Fail> {
-    let mut seen = Vec::new(rt.alloc());
-    let mut next = list.first();
-    for _ in 0..list.len() {
-        if let Some(label) = next {
-            if let Some(item) = list.at(label) {
-                seen.push((label, *item))?;
-                next = list.next(label);
-            }
-        }
-    }
-    Ok(seen)
+/// An edit and the number that it gives (the label of a new item, or the item that was there), or what a list has.
+enum Step {
+    /// An item that is added at the end, and its label.
+    Push(u32, u32),
+    /// A label, an item that is added before it, and the new item's label.
+    Insert(u32, u32, u32),
+    /// A label, its new item and its old one.
+    Replace(u32, u32, u32),
+    /// A label, and its item, which is taken out.
+    Unlink(u32, u32),
+    /// A label that is not in the list.
+    Without(u32),
+    /// How many labels have been given, and the labels and items from the first one on.
+    Has(u32, &'static [(u32, u32)]),
 }
+
+fn push(list: &mut InstrList<u32>, item: u32) -> Option<u32> {
+    if list.given() >= 65536 {
+        return None;
+    }
+    list.push_back(item).ok()
+}
+
+fn insert(list: &mut InstrList<u32>, label: u32, item: u32) -> Option<u32> {
+    if list.given() >= 65536 {
+        return None;
+    }
+    match list.at(label) {
+        Some(_) => list.insert_before(label, item).ok(),
+        None => None,
+    }
+}
+
+fn replace(list: &mut InstrList<u32>, label: u32, item: u32) -> Option<u32> {
+    match list.at(label) {
+        Some(_) => Some(list.replace(label, item)),
+        None => None,
+    }
+}
+
+fn unlink(list: &mut InstrList<u32>, label: u32) -> Option<u32> {
+    match list.at(label) {
+        Some(_) => Some(list.unlink(label)),
+        None => None,
+    }
+}
+
+// The item under a label, and the labels before and after it.
+fn neighbours(list: &InstrList<u32>, label: u32) -> Option<(u32, Option<u32>, Option<u32>)> {
+    match list.at(label) {
+        Some(item) => Some((*item, list.prev(label), list.next(label))),
+        None => None,
+    }
+}
+
+// Whether a list has these labels and items, from its first one on, and from each back to the one before.
+fn has(list: &InstrList<u32>, wanted: &[(u32, u32)]) -> bool {
+    let mut right = list.len() == wanted.len() && list.is_empty() == wanted.is_empty();
+    let mut before = None;
+    let mut next = list.first();
+    for (label, item) in wanted {
+        right = right && next == Some(*label);
+        next = match neighbours(list, *label) {
+            Some((found, previous, after)) => {
+                right = right && found == *item && previous == before;
+                after
+            }
+            None => return false,
+        };
+        before = Some(*label);
+    }
+    right && next.is_none()
+}
+
+fn is_done(list: &mut InstrList<u32>, step: &Step) -> bool {
+    match step {
+        Step::Push(item, label) => push(list, *item) == Some(*label),
+        Step::Insert(before, item, label) => insert(list, *before, *item) == Some(*label),
+        Step::Replace(label, item, old) => replace(list, *label, *item) == Some(*old),
+        Step::Unlink(label, item) => unlink(list, *label) == Some(*item),
+        Step::Without(label) => list.at(*label).is_none(),
+        Step::Has(given, items) => list.given() == *given && has(list, items),
+    }
+}
+
+fn plays(list: &mut InstrList<u32>, steps: &[Step]) -> Result<(), Fail> {
+    for (number, step) in steps.iter().enumerate() {
+        row_passes(number, Ok(is_done(list, step)))?;
+    }
+    Ok(())
+}
+
+static LABELS_STAY: [Step; 10] = [
+    Step::Push(10, 0),
+    Step::Push(20, 1),
+    Step::Push(30, 2),
+    Step::Unlink(1, 20),
+    Step::Insert(2, 25, 3),
+    Step::Has(4, &[(0, 10), (3, 25), (2, 30)]),
+    Step::Replace(0, 11, 10),
+    Step::Has(4, &[(0, 11), (3, 25), (2, 30)]),
+    Step::Without(1),
+    Step::Without(4),
+];
 
 #[test]
 fn labels_stay_through_edits(rt: HostRuntime) -> Result<(), Fail> {
-    let mut list = InstrList::new(rt.alloc());
-    let pushed = [
-        list.push_back(10)?,
-        list.push_back(20)?,
-        list.push_back(30)?,
-    ];
-    let taken = list.unlink(1);
-    let inserted = list.insert_before(2, 25)?;
-    assert!(rt; pushed == [0, 1, 2] && taken == 20 && inserted == 3);
-    let seen = forward(&rt, &list)?;
-    assert!(rt; *seen.as_slice() == *[(0, 10), (3, 25), (2, 30)].as_slice());
-    let before = [list.prev(2), list.prev(3), list.prev(0)];
-    let replaced = list.replace(0, 11);
-    assert!(rt; before == [Some(3), Some(0), None] && replaced == 10);
-    let items = [list.at(0), list.at(1), list.at(4)];
-    assert!(rt; items == [Some(&11), None, None] && list.len() == 3 && list.given() == 4);
-    Ok(())
+    plays(&mut InstrList::new(rt.alloc()), LABELS_STAY.as_slice())
 }
+
+static EMPTIES: [Step; 8] = [
+    Step::Has(0, &[]),
+    Step::Push(1, 0),
+    Step::Insert(0, 2, 1),
+    Step::Unlink(0, 1),
+    Step::Unlink(1, 2),
+    Step::Has(2, &[]),
+    Step::Push(3, 2),
+    Step::Has(3, &[(2, 3)]),
+];
 
 #[test]
 fn a_list_empties_and_fills_again(rt: HostRuntime) -> Result<(), Fail> {
-    let mut list = InstrList::new(rt.alloc());
-    let was_empty = list.is_empty() && list.first().is_none();
-    let labels = [list.push_back(1)?, list.insert_before(0, 2)?];
-    let items = [list.unlink(0), list.unlink(1)];
-    let is_empty = list.first().is_none();
-    let label = list.push_back(3)?;
-    assert!(rt; was_empty && is_empty && labels == [0, 1] && items == [1, 2] && label == 2);
-    let seen = forward(&rt, &list)?;
-    assert!(rt; *seen.as_slice() == *[(2, 3)].as_slice());
-    Ok(())
+    plays(&mut InstrList::new(rt.alloc()), EMPTIES.as_slice())
+}
+
+// Adds one more reference to the text.
+fn share(list: &mut InstrList<Rc<String>>, text: &Rc<String>) -> bool {
+    if list.given() >= 65536 {
+        return false;
+    }
+    let Ok(copy) = text.clone() else {
+        return false;
+    };
+    match list.push_back(copy) {
+        Ok(_) => true,
+        Err(refused) => {
+            drop(refused.value);
+            false
+        }
+    }
+}
+
+// Takes the item under a label out.
+fn forget(list: &mut InstrList<Rc<String>>, label: u32) -> bool {
+    match list.at(label) {
+        Some(_) => {
+            drop(list.unlink(label));
+            true
+        }
+        None => false,
+    }
+}
+
+// Puts another reference to the text under a label.
+fn renew(list: &mut InstrList<Rc<String>>, label: u32, text: &Rc<String>) -> bool {
+    let Ok(copy) = text.clone() else {
+        return false;
+    };
+    match list.at(label) {
+        Some(_) => {
+            drop(list.replace(label, copy));
+            true
+        }
+        None => {
+            drop(copy);
+            false
+        }
+    }
+}
+
+// How many references there are after three are added, after one is taken out, and after one is replaced.
+fn references(list: &mut InstrList<Rc<String>>, text: &Rc<String>) -> Option<[usize; 3]> {
+    if !(share(list, text) && share(list, text) && share(list, text)) {
+        return None;
+    }
+    let full = Rc::strong_count(text);
+    let is_unlinked = forget(list, 1);
+    let unlinked = Rc::strong_count(text);
+    let is_replaced = renew(list, 2, text);
+    let replaced = Rc::strong_count(text);
+    if is_unlinked && is_replaced {
+        Some([full, unlinked, replaced])
+    } else {
+        None
+    }
 }
 
 #[test]
 fn each_item_is_dropped_once(rt: HostRuntime) -> Result<(), Fail> {
     let shared = Rc::new(rt.alloc(), String::from_str(rt.alloc(), "text")?)?;
     let mut list = InstrList::new(rt.alloc());
-    list.push_back(shared.clone()?)?;
-    list.push_back(shared.clone()?)?;
-    list.push_back(shared.clone()?)?;
-    let full = Rc::strong_count(&shared);
-    drop(list.unlink(1));
-    let unlinked = Rc::strong_count(&shared);
-    drop(list.replace(2, shared.clone()?));
-    let replaced = Rc::strong_count(&shared);
+    let counts = references(&mut list, &shared);
     drop(list);
     let dropped = Rc::strong_count(&shared);
-    assert!(rt; [full, unlinked, replaced, dropped] == [4, 3, 3, 1]);
-    Ok(())
+    drop(shared);
+    passes(Ok(counts == Some([4, 3, 3]) && dropped == 1))
+}
+
+// Whether items are added up to the most labels that a list gives, each with the next one.
+fn fills(list: &mut InstrList<u32>) -> bool {
+    let mut right = true;
+    for item in 0..65536u32 {
+        right = push(list, item) == Some(item) && right;
+    }
+    right && list.given() == 65536 && list.at(65535) == Some(&65535)
 }
 
 #[test]
 fn a_list_of_the_most_labels_takes_no_stack(rt: HostRuntime) -> Result<(), Fail> {
-    let mut list = InstrList::new(rt.alloc());
-    for item in 0..65536u32 {
-        if list.given() < 65536 {
-            list.push_back(item)?;
-        }
-    }
-    assert!(rt; list.given() == 65536 && list.at(65535) == Some(&65535));
-    Ok(())
+    passes(Ok(fills(&mut InstrList::new(rt.alloc()))))
 }
 
 // Adds an item at the end, and checks that it has the next label. If memory ran out, checks that the item came back, that the
@@ -120,16 +254,20 @@ fn inserts(list: &mut InstrList<u32>, item: u32) -> bool {
     }
 }
 
-// Any of these requests for memory may be refused (`tests/outside/memory.sh list` refuses each in turn).
-#[test]
-fn a_refused_growth_hands_the_item_back(rt: HostRuntime) {
-    let mut list = InstrList::new(rt.alloc());
+// Whether 40 items are added; each may be refused once, for lack of memory.
+fn grows(list: &mut InstrList<u32>) -> bool {
     let mut right = true;
     for item in 0..20u32 {
-        right = right && pushes(&mut list, item);
+        right = right && pushes(list, item);
     }
     for item in 20..40u32 {
-        right = right && inserts(&mut list, item);
+        right = right && inserts(list, item);
     }
-    assert!(rt; right && list.len() == 40);
+    right && list.len() == 40
+}
+
+// Any of these requests for memory may be refused (`tests/outside/memory.sh list` refuses each in turn).
+#[test]
+fn a_refused_growth_hands_the_item_back(rt: HostRuntime) -> Result<(), Fail> {
+    passes(Ok(grows(&mut InstrList::new(rt.alloc()))))
 }

@@ -1,3 +1,2 @@
--- What the contracts of the tests use.
--- what the parameter of a service names
+-- What the parameter of a test's service names.
 pub mod Named

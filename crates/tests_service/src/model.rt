@@ -198,8 +198,8 @@ fn are_standing(history: &[SharedEntry], receipts: &[Vec<Receipt>]) -> bool {
     count == history.len()
 }
 
-/// The map after a history that began with an empty map; none if an entry's answer is not the model's, or a client's receipts
-/// are not those of its entries.
+/// The map after a history that began with an empty map; `None` if an entry's answer is not the model's, or a client's
+/// receipts are not those of its entries.
 pub fn replayed(history: &[SharedEntry], receipts: &[Vec<Receipt>]) -> Option<Model> {
     let mut model = EMPTY;
     for shared in history {

@@ -131,7 +131,7 @@ where
     Ok(end == wanted && answers_on(rt, alloc, b"list\n", disk, lines, SessionEnd::Finished)?)
 }
 
-// One script ends within a source; another can't be read on at that point.
+// One script ends within a source; another can't be read any further at that point.
 #[test]
 fn what_a_fault_leaves(rt: HostRuntime) -> Result<(), Fail> {
     let mut short = b"add a 16\nint main(void){}\nadd b 99\nint".as_slice();

@@ -114,7 +114,7 @@ where
     Ok(served_on(rt, alloc, spools, disk, bounds))
 }
 
-// The same on a disk that fails for good after this many calls.
+// What serving leaves on a disk that fails for good after this many calls.
 fn served_until<H>(
     rt: &H,
     alloc: Global,
@@ -166,7 +166,8 @@ fn ended_well(scripts: u64, entries: u64, bytes: u64, why: GenerationEnd) -> Gen
     }
 }
 
-// Three calls are counted as 768 bytes. At that bound the next script is done by the next generation, where numbers begin at 1.
+// Three calls are counted as 768 bytes. At that bound the next script is run by the next generation, in which numbers begin at
+// 1.
 #[test]
 fn generations_that_end_by_bytes(rt: HostRuntime) -> Result<(), Fail> {
     let alloc = rt.alloc();
@@ -220,7 +221,7 @@ fn what_a_generation_counts(rt: HostRuntime) -> Result<(), Fail> {
     let done = served_in_memory(&rt, alloc, spools, 4096, by_scripts(1))?;
     let told = done.generations.as_slice();
     assert!(rt; done.left.end == SessionEnd::Finished && told.len() == 5);
-    // The bytes are 256, the 16 bytes of the source, and what was made of it.
+    // The bytes are 256, the 16 bytes of the source, and what was compiled from it.
     let bytes = told[0].bytes;
     assert!(rt; 256 + 16 < bytes && bytes < 4096);
     assert!(rt; told[0] == ended_well(1, 1, bytes, GenerationEnd::Scripts));
@@ -231,7 +232,7 @@ fn what_a_generation_counts(rt: HostRuntime) -> Result<(), Fail> {
     Ok(())
 }
 
-// While a script is being done, a generation goes on at the lower bound of bytes, and ends at the upper one and after its
+// While a script is being run, a generation goes on at the lower bound of bytes, and ends at the upper one and after its
 // scripts. Once it was found to be at its end, it does not go on.
 #[test]
 fn a_meter_that_clients_share(rt: HostRuntime) -> Result<(), Fail> {
@@ -301,7 +302,7 @@ fn a_history_that_is_too_long(rt: HostRuntime) -> Result<(), Fail> {
     Ok(())
 }
 
-// After two scripts no further one is taken; if the bound is 0, one script is done in each generation all the same.
+// After two scripts no further one is taken; even if the bound is 0, each generation runs one script.
 #[test]
 fn generations_that_end_by_scripts(rt: HostRuntime) -> Result<(), Fail> {
     let alloc = rt.alloc();

@@ -29,7 +29,7 @@ pub fn with_record_in(alloc: Global, area: u32, body: &[u8]) -> Result<MemoryDis
     }
 }
 
-/// The same with two areas of 64 bytes.
+/// A formatted disk with two areas of 64 bytes, and a record with this body.
 pub fn with_record(alloc: Global, body: &[u8]) -> Result<MemoryDisk, Fail> {
     with_record_in(alloc, 64, body)
 }
@@ -88,7 +88,7 @@ where
     Ok(end == wanted && is_back && written.as_slice() == lines.as_bytes())
 }
 
-/// The same on a formatted disk with areas of this size.
+/// As `answers_on`, on a formatted disk with areas of this size.
 pub fn answers<H>(
     rt: &H,
     alloc: Global,

@@ -7,7 +7,7 @@ use std::alloc::{AllocError, Global};
 use std::io::{self, Read};
 use std::test::Fail;
 
-// A command, the line that answers it if that is no `ok`, and whether its call has a receipt.
+// A command, the line that answers it if that is not `ok`, and whether its call has a receipt.
 struct Piece {
     text: &'static str,
     fault: Option<&'static str>,
@@ -78,7 +78,8 @@ static PIECES: [Piece; 12] = [
     },
 ];
 
-// The commands in a circle, beginning with one of them, twice over: the second time those that were added are there.
+// All commands in cyclic order, beginning with the one at `first`, twice: the second time, the units that were added
+// are there.
 fn script_from(alloc: Global, first: usize) -> Result<(Vec<u8>, String), Fail> {
     let mut script = Vec::new(alloc);
     let mut lines = String::new(alloc);

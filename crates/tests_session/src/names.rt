@@ -19,7 +19,7 @@ fn is_named<F: Display + Drop>(alloc: Global, fault: F, number: u32) -> Result<b
     Ok(!name.is_empty() && name.as_str() == name_of(number))
 }
 
-// The same for all of these.
+// Whether each of these faults has the name that belongs to its number.
 fn are_named<F: Display + Drop>(alloc: Global, faults: Vec<(F, u32)>) -> Result<bool, AllocError> {
     for (fault, number) in faults {
         if !is_named(alloc, fault, number)? {

@@ -34,7 +34,7 @@ static SCRIPTS: [(&str, &str); 13] = [
         "add a 16\nint main(void){}list\nlist\n",
         "fault 50 BadLine\nok 1\n",
     ),
-    // The source is read all the same if the name is refused.
+    // The source is read even if the name is refused.
     ("add A 4\nlist\nlist\n", "fault 33 BadName\nok 1\n"),
     (
         "add a 26\nint main(void){return 1 2}\n",

@@ -196,7 +196,7 @@ fn a_disk_that_is_no_library(rt: HostRuntime) -> Result<(), Fail> {
     assert!(rt; left.end == SessionEnd::Fault(38));
     assert!(rt; written.as_slice() == b"fault 38 NotALibrary\n".as_slice());
     assert!(rt; left.spools.len() == 1 && left.spools[0].answered().is_empty());
-    // The scripts are done on a disk that has a library.
+    // The scripts are run on a disk that has a library.
     let left = served(
         &rt,
         alloc,

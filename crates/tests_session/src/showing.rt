@@ -111,7 +111,7 @@ fn texts_without_room(rt: HostRuntime) -> Result<(), Fail> {
     Ok(())
 }
 
-// Whether a source is what its frame has, and whether it is there if a byte of that is cut off or comes after it.
+// Whether a source is found in its frame, but not if the frame lacks its last byte or if a line follows it.
 fn is_framed(alloc: Global, source: &[u8]) -> Result<bool, Fail> {
     if source.len() > 65_536 {
         return Ok(false);

@@ -42,7 +42,7 @@ pub static SCRIPTS: [(&str, &str); 14] = [
     ("add @ 16\nint main(void){}\n", "ok #\n"),
 ];
 
-/// The clients, each with how many of the scripts it does: forty in all.
+/// The clients, each with how many of the scripts it hands in: forty in all.
 pub const CLIENTS: [(u8, usize); 3] = [(b'a', 14), (b'b', 13), (b'c', 13)];
 
 /// A script. If it is torn, it can't be read past its bytes.
@@ -82,7 +82,7 @@ impl Write for Page {
     }
 }
 
-/// An answer that has all the room that it needs has at most this many bytes.
+/// An answer that is not cut off has at most this many bytes.
 pub const ROOM: usize = 4_000_000;
 
 /// An empty answer with this room.

@@ -78,7 +78,7 @@ where
     Ok(right)
 }
 
-// The last line of a script is done, an empty script has no line, and a line that can't be done counts as one.
+// The last line of a script is run, an empty script has no line, and a line that can't be run counts as one.
 static LINES: [Case; 4] = [
     ("list\nlist\nlist\n", "ok 1\nfault 61 Stopped\n", Some(61)),
     ("list\n", "ok 2\n", None),
@@ -90,7 +90,7 @@ static LINES: [Case; 4] = [
     ),
 ];
 
-// Scripts are done whole if nobody waits, or if none has been at work for long.
+// Scripts are run to their end if nobody waits, or if none has been at work for long.
 static WHOLE: [Case; 2] = [
     ("list\nlist\nlist\n", "ok 1\nok 2\nok 3\n", None),
     (
@@ -111,7 +111,7 @@ fn scripts_that_end_behind_a_line(rt: HostRuntime) -> Result<(), Fail> {
     Ok(())
 }
 
-// What is added, and how it runs: `a` never ends, `b` ends at once, and `c` takes more than 10,000,000 instructions for the sum
+// What is added, and how it runs: `a` never ends, `b` ends at once, and `c` needs more than 10,000,000 instructions for the sum
 // of the numbers below 2,000,000, which is 1,999,999,000,000, or -1,455,759,936 as a word.
 static RUNS: [Case; 7] = [
     ("add a 26\nint main(void){while(1){}}\n", "ok 1\n", None),
@@ -131,8 +131,8 @@ static RUNS: [Case; 7] = [
     ),
 ];
 
-// If others wait, a run that is not at its end is cut off after 10,000,000 instructions. Its unit was fetched, and nothing is
-// written of it.
+// If others wait, a run that is not at its end is cut off after 10,000,000 instructions. Its unit was fetched, and no part of
+// its output is written.
 static CUTS: [Case; 8] = [
     ("add a 26\nint main(void){while(1){}}\n", "ok 1\n", None),
     ("add b 16\nint main(void){}\n", "ok 2\n", None),

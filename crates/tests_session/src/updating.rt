@@ -45,7 +45,7 @@ static UPDATES: [(&str, &str); 9] = [
         "update b 1 16\nx\nint main(void){}y\nlist\n",
         "fault 50 BadLine\nok 1\n",
     ),
-    // Lines that are no commands.
+    // Lines that are not commands.
     (
         "update a 1\nupdate a 1 1 1\nupdate a x 1\nupdate a 1 x\nupdate  1 1\nupdate a 1 1000000\nlist\n",
         "fault 50 BadLine\nfault 50 BadLine\nfault 50 BadLine\nfault 50 BadLine\nfault 50 BadLine\nfault 50 BadLine\nok 1\n",

@@ -1,5 +1,5 @@
-// A spool in a real folder: which things in `new` are scripts, what a start makes of what a kill left, and when an answer is
-// replaced by 54.
+// A spool in a real folder: which things in `new` are scripts, what a start does with what a kill left, and when an answer is
+// replaced with 54.
 
 use crate::helpers::{
     End, Folder, Meanwhile, answer, answer_one, answer_read, begun, clears, counts, done, ends_so,
@@ -20,7 +20,7 @@ enum Thing {
     Directory,
 }
 
-// A name, the thing that has it, and whether that is a script.
+// A name, the thing that has it, and whether the thing is a script.
 #[derive(Clone, Copy, Drop)]
 struct Row {
     name: &'static str,
@@ -522,7 +522,7 @@ fn how_many_entries(rt: HostRuntime) {
     must(&rt, folder.end(layout, held), "its end");
 }
 
-// Makes as many directories as a client keeps names.
+// Makes as many directories as the number of names that a client keeps.
 fn fill_with_directories(folder: Folder) -> bool {
     for number in 1000..2024 {
         match format!(in folder.rt.alloc(); "0-{number}") {
@@ -701,7 +701,7 @@ fn a_folder_that_was_moved(rt: HostRuntime) {
     let path = "a_folder_that_was_moved.old";
     let moved = Folder { rt, path };
     let (layout, held) = folder.take().expect(&rt, "a folder");
-    // Of two clients, one does nothing else meanwhile.
+    // There are two clients; `busy` takes no script meanwhile.
     let mut busy = second(&layout, 100).expect(&rt, "a client");
     let mut spool = FolderSpool::new(layout, 100);
     must(&rt, folder.move_to(moved), "it is moved");

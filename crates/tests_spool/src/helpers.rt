@@ -35,7 +35,7 @@ pub struct Seen {
 }
 
 impl Folder {
-    /// The path of a file in a part of the folder; none if there is no memory.
+    /// The path of a file in a part of the folder; empty if memory runs out.
     fn path_in(self, part: &str, name: &str) -> String {
         match format!(in self.rt.alloc(); "{}/{part}/{name}", self.path) {
             Ok(path) => path,
@@ -191,7 +191,7 @@ impl Folder {
         }
     }
 
-    /// How many entries a part has, and the name of one that is no answer. For a part that can't be read, the number is the
+    /// How many entries a part has, and the name of one that is not an answer. For a part that can't be read, the number is the
     /// largest possible.
     fn entries(self, part: &str) -> (usize, String) {
         let mut script = String::new(self.rt.alloc());
@@ -217,13 +217,12 @@ impl Folder {
         self.entries(part).0 == wanted
     }
 
-    /// A new folder with its parts, and its lock; none if it is refused.
+    /// A new folder with its parts, and its lock; `None` if it is refused.
     pub fn take(self) -> Option<(FolderLayout, Held)> {
         held(FolderLayout::new(self.rt, self.rt.alloc(), self.path).ok()?)
     }
 
-    /// The same, as a server with this many clients takes the folder. Each client may do a script for this many seconds while
-    /// others wait.
+    /// As `take`, for a server with this many clients. Each client may do a script for this many seconds while others wait.
     pub fn take_to_serve(self, clients: usize, patience: u32) -> Option<(FolderLayout, Held)> {
         let limits = Limits {
             days: 7,
@@ -265,7 +264,7 @@ impl Folder {
     }
 }
 
-// A folder with its lock; none if it is refused.
+// A folder with its lock; `None` if it is refused.
 fn held(mut layout: FolderLayout) -> Option<(FolderLayout, Held)> {
     match take_folder(&mut layout, 1) {
         Ok(Some(held)) => Some((layout, held)),
@@ -295,7 +294,7 @@ pub fn is_soon_awaited(folder: Folder, spool: &FolderSpool) -> bool {
     false
 }
 
-/// What a start finds; none if it can't look.
+/// What a start finds; `None` if it can't look.
 pub fn recovered(layout: &FolderLayout) -> Option<Recovered> {
     recover(layout).ok()
 }
@@ -355,7 +354,7 @@ fn replace(folder: Folder) -> bool {
     is_replaced
 }
 
-/// Takes the next script, and answers it with this text. The result is whether all of that succeeds; none if no script waits.
+/// Takes the next script, and answers it with this text. The result is whether all of that succeeds; `None` if no script waits.
 pub fn answer(
     folder: Folder,
     spool: &mut FolderSpool,
@@ -434,7 +433,7 @@ pub fn renumber_one(folder: Folder) -> bool {
     false
 }
 
-/// How a script ends that was left.
+/// How a script that was left ends.
 #[derive(Clone, Copy, Drop)]
 pub enum End {
     /// It was answered; this is the number of the fault that its answer reports last, if it reports one.

@@ -1,5 +1,5 @@
-// Records that reading ahead cuts in two: what is read in one go ends within a gate's record, at each of its first bytes, and
-// within a body.
+// Records that reading ahead cuts in two: what is read in one call ends at each of the first bytes of a record, and within a
+// body.
 
 use crate::helpers::{holds, opened};
 use cc_disk::MemoryDisk;
@@ -8,10 +8,10 @@ use std::alloc::Global;
 use std::test::Fail;
 use tests_texts::verdict::passes;
 
-// How many bytes are read ahead, from the beginning of an area on when it is opened.
+// How many bytes are read ahead, from the beginning of an area, when a journal is opened.
 const AHEAD: usize = 65_536;
 
-// This many bytes, whose values show their places.
+// This many bytes, whose values depend on their places.
 fn counted(alloc: Global, length: usize) -> Result<Vec<u8>, Fail> {
     let mut bytes = Vec::with_capacity(alloc, length)?;
     for i in 0..length {
@@ -20,7 +20,7 @@ fn counted(alloc: Global, length: usize) -> Result<Vec<u8>, Fail> {
     Ok(bytes)
 }
 
-// Whether records with bodies of these lengths are found again, in that order.
+// Whether records with bodies of these lengths are found again, in order.
 fn are_found(alloc: Global, lengths: &[usize]) -> Result<bool, Fail> {
     let longest = counted(alloc, 200_000)?;
     let mut disk = MemoryDisk::new(alloc, 16 + 2 * 300_000)?;
@@ -39,7 +39,8 @@ fn are_found(alloc: Global, lengths: &[usize]) -> Result<bool, Fail> {
 
 #[test]
 fn a_record_behind_what_was_read_ahead(rt: HostRuntime) -> Result<(), Fail> {
-    // The second record begins `before` bytes before the end of what is read ahead, or after it.
+    // The second record begins `before` bytes before the end of what is read ahead in the first case, and `9 - before` bytes
+    // after it in the second.
     for before in 0..9usize {
         let first = AHEAD - 5 - before;
         passes(are_found(rt.alloc(), &[first, 300, 0, 7]))?;

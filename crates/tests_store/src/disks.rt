@@ -4,9 +4,9 @@ use crate::helpers::{disk_of, has_bytes};
 use cc_disk::{Disk, FuseDisk, FuseMode, MemoryDisk};
 use std::alloc::Global;
 use std::test::Fail;
-use tests_texts::verdict::{each_passes, passes};
+use tests_texts::verdict::{passes, row_passes};
 
-// Whether a crash with that choice leaves these bytes.
+// Whether a crash with this choice leaves these bytes.
 fn crash_leaves(
     alloc: Global,
     disk: &MemoryDisk,
@@ -34,8 +34,15 @@ fn a_crash_chooses_the_unsettled_bytes(rt: HostRuntime) -> Result<(), Fail> {
     passes(is_chosen(rt.alloc()))
 }
 
-// The mode of a fuse that lets one call pass; the answers to two writes and a sync, what the disk then has, and the failures.
+// The mode of a fuse that lets one call pass; whether two writes and a sync succeed; what the disk then has; and how many
+// calls failed.
 type Row = (FuseMode, [bool; 3], [u8; 2], u64);
+
+static ROWS: [Row; 3] = [
+    (FuseMode::Once, [true, false, true], [1, 0], 1),
+    (FuseMode::Before, [true, false, false], [1, 0], 2),
+    (FuseMode::Within, [true, false, false], [1, 2], 2),
+];
 
 fn is_row(alloc: Global, row: &Row) -> Result<bool, Fail> {
     let mut fuse = FuseDisk::new(MemoryDisk::new(alloc, 2)?, 1, row.0);
@@ -54,10 +61,8 @@ fn is_row(alloc: Global, row: &Row) -> Result<bool, Fail> {
 
 #[test]
 fn the_modes_of_a_fuse(rt: HostRuntime) -> Result<(), Fail> {
-    let rows = [
-        (FuseMode::Once, [true, false, true], [1, 0], 1),
-        (FuseMode::Before, [true, false, false], [1, 0], 2),
-        (FuseMode::Within, [true, false, false], [1, 2], 2),
-    ];
-    each_passes(rt.alloc(), &rows, is_row)
+    for number in 0..ROWS.len() {
+        row_passes(number, is_row(rt.alloc(), &ROWS[number]))?;
+    }
+    Ok(())
 }

@@ -8,12 +8,12 @@ use std::fs::{self, OpenOptions};
 use std::test::Fail;
 use tests_texts::verdict::passes;
 
-// Whether nobody can open the file as a disk, or make a disk of it.
+// Whether nobody else can open the file as a disk or make a disk of it.
 fn is_held(rt: &HostRuntime, path: &str) -> bool {
     FileDisk::open(rt, path).is_err() && FileDisk::create(rt, path, 9).is_err()
 }
 
-// Makes a journal with one record in a new file. The result is whether nobody else has the file while the journal does.
+// Makes a journal with one record in a new file. The result is whether nobody else can use the file while the journal is open.
 fn is_written(rt: &HostRuntime, alloc: Global, path: &str) -> Result<bool, Fail> {
     let mut disk = FileDisk::create(rt, path, 144)?;
     let has_size = disk.size() == 144;
@@ -25,7 +25,7 @@ fn is_written(rt: &HostRuntime, alloc: Global, path: &str) -> Result<bool, Fail>
     Ok(right)
 }
 
-// Whether the file has that journal.
+// Whether the file has the journal that `is_written` made.
 fn is_found(rt: &HostRuntime, alloc: Global, path: &str) -> bool {
     match FileDisk::open(rt, path) {
         Ok(disk) => disk.size() == 144 && holds(alloc, disk, &[&[1, 3, 1, 0x61]]),
@@ -41,7 +41,7 @@ fn a_journal_in_a_file(rt: HostRuntime) -> Result<(), Fail> {
     passes(Ok(right && fs::remove_file(&rt, path).is_ok()))
 }
 
-// Whether twenty bytes from that offset on of a disk of 100 bytes are read, or are not, as `wanted` says; and exactly one read
+// Whether reading twenty bytes at this offset succeeds or fails as `wanted` says, on a disk of 100 bytes, and exactly one read
 // has failed so far.
 fn is_read(disk: &mut FileDisk, offset: usize, wanted: bool) -> bool {
     let mut buffer = [0u8; 20];
@@ -51,7 +51,8 @@ fn is_read(disk: &mut FileDisk, offset: usize, wanted: bool) -> bool {
         && disk.failures() == 1
 }
 
-// Whether a disk of zeros reads no further than its file goes after somebody cut the file: a read past its end gives fewer bytes.
+// Whether a disk of zeros reads no further than its file goes, once somebody has truncated the file: a read past the file's end
+// returns fewer bytes.
 fn is_cut(rt: &HostRuntime, alloc: Global, path: &str) -> Result<bool, Fail> {
     let mut disk = FileDisk::create(rt, path, 100)?;
     let are_zeros = has_bytes(alloc, &mut disk, &[0; 100])?;

@@ -38,7 +38,7 @@ pub fn formatted(alloc: Global) -> Result<MemoryDisk, Fail> {
 }
 
 /// The 26 bytes of the worked row: header, one open record with the body 01 03 01 61, the closed gate.
-pub const ROW: [u8; 26] = [
+pub const ROW: &[u8] = &[
     0x00, 0x43, 0x43, 0x4c, 0x49, 0x42, 0x30, 0x31, 0x40, 0x00, 0x00, 0x00, 0x00, 0x00, 0x00, 0x00,
     0xa5, 0x04, 0x00, 0x00, 0x00, 0x01, 0x03, 0x01, 0x61, 0x00,
 ];
@@ -59,7 +59,7 @@ pub fn row_disk(alloc: Global, changes: &[(usize, u8)]) -> Result<MemoryDisk, Fa
     disk_of(alloc, &bytes)
 }
 
-/// The bytes from one offset to another, or none.
+/// The bytes from one offset to another, or no bytes if the offsets are not in range.
 pub fn part(bytes: &[u8], from: usize, to: usize) -> &[u8] {
     if from <= to && to <= bytes.len() {
         &bytes[from..to]
@@ -86,7 +86,7 @@ pub fn has_parts<D: Disk>(
     )
 }
 
-/// Whether the records have those bodies, in order.
+/// Whether the records have these bodies, in order.
 pub fn are_bodies(records: &[Body], wanted: &[&[u8]]) -> bool {
     if records.len() != wanted.len() {
         return false;
@@ -115,7 +115,7 @@ pub fn holds<D: Disk + Drop>(alloc: Global, disk: D, wanted: &[&[u8]]) -> bool {
     }
 }
 
-/// The number of the fault with which the disk is refused, or 0.
+/// The number of the fault with which the disk is refused, or 0 if it is opened.
 pub fn refusal<D: Disk + Drop>(alloc: Global, disk: D) -> u32 {
     match Journal::open(alloc, disk) {
         Ok(_) => 0,

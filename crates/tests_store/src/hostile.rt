@@ -1,74 +1,86 @@
-// Disks that `format` did not make.
+// Disks that `format` did not make, opened as a journal and as a library. The record of the worked row is a Withdraw of `a`.
 
-use crate::helpers::{bytes_of, has_parts, holds, opened, part, refusal, row_disk};
+use crate::helpers::{bytes_of, has_parts, holds, opened, refusal, row_disk};
+use crate::library::helpers::{recovers, refusal as library_refusal};
+use crate::rows::ROW_BODY;
 use cc_disk::{Disk, FuseDisk, FuseMode};
 use cc_journal::Journal;
 use std::alloc::Global;
 use std::test::Fail;
-use tests_texts::verdict::{each_passes, passes};
+use tests_texts::verdict::{passes, row_passes};
 
-// Bytes of the row's disk that are changed, and the number of the refusal, or 0.
-type Row = (&'static [(usize, u8)], u32);
+// A body of 58 bytes, the longest: it is there at once if the length says so.
+const LONGEST: &[u8] = &[
+    1, 3, 1, 0x61, 0, 0, 0, 0, 0, 0, 0, 0, 0, 0, 0, 0, 0, 0, 0, 0, 0, 0, 0, 0, 0, 0, 0, 0, 0, 0, 0,
+    0, 0, 0, 0, 0, 0, 0, 0, 0, 0, 0, 0, 0, 0, 0, 0, 0, 0, 0, 0, 0, 0, 0, 0, 0, 0, 0,
+];
 
-fn is_refused(alloc: Global, row: &Row) -> Result<bool, Fail> {
-    Ok(refusal(alloc, row_disk(alloc, row.0)?) == row.1)
+// Bytes of the row's disk that are changed; the number with which it is refused as a journal, or 0, and the body that it then has;
+// and the number with which it is refused as a library.
+type Row = (&'static [(usize, u8)], u32, &'static [u8], u32);
+
+static CHANGES: [Row; 19] = [
+    // Withdraw of an absent name, in both versions.
+    (&[], 0, &[1, 3, 1, 0x61], 37),
+    (&[(21, 2)], 0, &[2, 3, 1, 0x61], 37),
+    // A body of 58 bytes fits, and is no command; a body of 59 does not fit.
+    (&[(17, 0x3a)], 0, LONGEST, 37),
+    (&[(17, 0x3b)], 37, &[], 37),
+    (
+        &[(17, 0xff), (18, 0xff), (19, 0xff), (20, 0xff)],
+        37,
+        &[],
+        37,
+    ),
+    // Another version, another kind, a bad name.
+    (&[(21, 3)], 0, &[3, 3, 1, 0x61], 37),
+    (&[(21, 0)], 0, &[0, 3, 1, 0x61], 37),
+    (&[(22, 4)], 0, &[1, 4, 1, 0x61], 37),
+    (&[(23, 0)], 0, &[1, 3, 0, 0x61], 37),
+    (&[(24, 0x41)], 0, &[1, 3, 1, 0x41], 37),
+    // An open gate with too few bytes after it for a length.
+    (&[(17, 0x36), (75, 0xa5)], 37, &[], 37),
+    // The name, the reserved bytes, an area below 64, an area that is larger than the disk.
+    (&[(1, 0x44)], 38, &[], 38),
+    (&[(7, 0x30)], 38, &[], 38),
+    (&[(12, 1)], 38, &[], 38),
+    (&[(15, 1)], 38, &[], 38),
+    (&[(8, 0x3f)], 38, &[], 38),
+    (&[(8, 0x41)], 38, &[], 38),
+    (&[(10, 1)], 38, &[], 38),
+    (&[(11, 0x80)], 38, &[], 38),
+];
+
+fn is_answered(alloc: Global, row: &Row) -> Result<bool, Fail> {
+    let (changes, number, body, library_number) = *row;
+    let right = if number == 0 {
+        holds(alloc, row_disk(alloc, changes)?, &[body])
+    } else {
+        refusal(alloc, row_disk(alloc, changes)?) == number
+    };
+    Ok(right && library_refusal(alloc, row_disk(alloc, changes)?) == library_number)
 }
 
 #[test]
 fn each_change_of_the_row(rt: HostRuntime) -> Result<(), Fail> {
-    let table: [Row; 13] = [
-        (&[], 0),
-        // The name, the reserved bytes, an area below 64, an area that is larger than the disk.
-        (&[(1, 0x44)], 38),
-        (&[(7, 0x30)], 38),
-        (&[(12, 1)], 38),
-        (&[(15, 1)], 38),
-        (&[(8, 0x3f)], 38),
-        (&[(8, 0x41)], 38),
-        (&[(10, 1)], 38),
-        (&[(11, 0x80)], 38),
-        // A body of 58 bytes fits, a body of 59 does not.
-        (&[(17, 0x3a)], 0),
-        (&[(17, 0x3b)], 37),
-        (&[(17, 0xff), (18, 0xff), (19, 0xff), (20, 0xff)], 37),
-        // An open gate with too few bytes after it for a length.
-        (&[(17, 0x36), (75, 0xa5)], 37),
-    ];
-    each_passes(rt.alloc(), &table, is_refused)
-}
-
-fn is_longest(alloc: Global) -> Result<bool, Fail> {
-    let mut disk = row_disk(alloc, &[(17, 0x3a)])?;
-    let bytes = bytes_of(alloc, &mut disk)?;
-    let body = part(&bytes, 21, 79);
-    Ok(body.len() == 58 && holds(alloc, disk, &[body]))
-}
-
-#[test]
-fn the_longest_body_is_there_at_once(rt: HostRuntime) -> Result<(), Fail> {
-    passes(is_longest(rt.alloc()))
-}
-
-// Whether the row's disk with this gate has its record only if the gate is open.
-fn has_gate(alloc: Global, gate: u8) -> Result<bool, Fail> {
-    let disk = row_disk(alloc, &[(16, gate)])?;
-    if gate == 0xa5 {
-        Ok(holds(alloc, disk, &[&[1, 3, 1, 0x61]]))
-    } else {
-        Ok(holds(alloc, disk, &[]))
-    }
-}
-
-#[test]
-fn each_value_of_the_first_gate(rt: HostRuntime) -> Result<(), Fail> {
-    for gate in 0..=255u8 {
-        passes(has_gate(rt.alloc(), gate))?;
+    for number in 0..CHANGES.len() {
+        row_passes(number, is_answered(rt.alloc(), &CHANGES[number]))?;
     }
     Ok(())
 }
 
-// Whether a record with the body 77 goes after the first record of area A, or to the start of area B, depending on that area
-// byte.
+// Whether the row's disk with this gate has its record if the gate is open, and otherwise is an empty journal and an empty library.
+fn has_gate(alloc: Global, gate: u8) -> Result<bool, Fail> {
+    let disk = row_disk(alloc, &[(16, gate)])?;
+    if gate == 0xa5 {
+        return Ok(holds(alloc, disk, &[ROW_BODY]));
+    }
+    let is_empty = holds(alloc, disk, &[]);
+    Ok(is_empty && recovers(alloc, row_disk(alloc, &[(16, gate)])?, (None, None))?)
+}
+
+// Whether a record with the body 77 is added after the first record of area A, or at the start of area B, depending on the
+// area byte.
 fn is_added(alloc: Global, area_byte: u8) -> Result<bool, Fail> {
     let mut journal = opened(alloc, row_disk(alloc, &[(0, area_byte)])?)?;
     journal.append(alloc, &[0x77])?;
@@ -81,19 +93,15 @@ fn is_added(alloc: Global, area_byte: u8) -> Result<bool, Fail> {
 }
 
 #[test]
-fn each_value_of_the_area_byte(rt: HostRuntime) -> Result<(), Fail> {
-    for area_byte in 0..=255u8 {
-        passes(is_added(rt.alloc(), area_byte))?;
+fn each_first_gate_and_each_area_byte(rt: HostRuntime) -> Result<(), Fail> {
+    for byte in 0..=255u8 {
+        row_passes(byte as usize, has_gate(rt.alloc(), byte))?;
+        row_passes(byte as usize, is_added(rt.alloc(), byte))?;
     }
     Ok(())
 }
 
 // Opening a disk syncs, as it is, what was written before without a sync.
-#[test]
-fn opening_settles_what_was_written(rt: HostRuntime) -> Result<(), Fail> {
-    passes(is_settled(rt.alloc()))
-}
-
 fn is_settled(alloc: Global) -> Result<bool, Fail> {
     let mut disk = row_disk(alloc, &[])?;
     let bytes = bytes_of(alloc, &mut disk)?;
@@ -102,20 +110,20 @@ fn is_settled(alloc: Global) -> Result<bool, Fail> {
     }
     disk.write_at(0, &bytes)?;
     let disk = opened(alloc, disk)?.into_disk();
-    Ok(holds(alloc, disk.crash(alloc, &[])?, &[&[1, 3, 1, 0x61]]))
+    Ok(holds(alloc, disk.crash(alloc, &[])?, &[ROW_BODY]))
 }
 
+// Whether a disk whose first call fails is handed back with its record.
 fn is_handed_back(alloc: Global) -> Result<bool, Fail> {
     let fuse = FuseDisk::new(row_disk(alloc, &[])?, 0, FuseMode::Once);
     match Journal::open(alloc, fuse) {
         Ok(_) => Ok(false),
-        Err((fault, fuse)) => {
-            Ok(fault.number() == 35 && holds(alloc, fuse, &[&[1, 3, 1, 0x61]]))
-        }
+        Err((fault, fuse)) => Ok(fault.number() == 35 && holds(alloc, fuse, &[ROW_BODY])),
     }
 }
 
 #[test]
-fn a_failure_hands_the_disk_back(rt: HostRuntime) -> Result<(), Fail> {
+fn opening_settles_what_was_written_or_hands_the_disk_back(rt: HostRuntime) -> Result<(), Fail> {
+    passes(is_settled(rt.alloc()))?;
     passes(is_handed_back(rt.alloc()))
 }

@@ -1,33 +1,18 @@
 // The calls of a log. A log keeps no body: each call returns the bodies instead.
 
-use crate::helpers::{ROW, SIZE, are_bodies, bytes_of, formatted, has_bytes, has_parts, one_body};
+use crate::helpers::{are_bodies, bytes_of, formatted, has_bytes, one_body};
+use crate::rows::{ROW_BODY, Step, Steps};
 use cc_disk::{Disk, FuseDisk, FuseMode, MemoryDisk};
-use cc_journal::{Body, Log};
+use cc_journal::{Body, JournalFault, Log};
 use std::alloc::Global;
 use std::test::Fail;
-use tests_texts::verdict::{each_passes, passes};
+use tests_texts::verdict::{passes, row_passes};
 
-// The body of the worked row.
-const ROW_BODY: [u8; 4] = [1, 3, 1, 0x61];
-
-// What is done to a log, and the number of the right answer, 0 for Ok.
-#[derive(Clone, Copy)]
-enum Step {
-    // The body of the row is added, by itself, or with what is around it in its record.
-    Row { is_framed: bool },
-    // A body of this many bytes, each with this value, is added.
-    Append(u8, usize, u32),
-    // All is written again as one body of this many bytes, each 1.
-    Rewrite(usize, u32),
-}
-
-// The log on a disk whose records have these bodies.
-fn opened<D: Disk + Drop>(alloc: Global, disk: D, wanted: &[&[u8]]) -> Result<Log<D>, Fail> {
+// The log on a disk.
+fn opened<D: Disk + Drop>(alloc: Global, disk: D) -> Result<Log<D>, Fail> {
     match Log::open(alloc, disk) {
         Ok((log, bodies)) => {
-            if !are_bodies(&bodies, wanted) {
-                return Err(Fail::from("other records"));
-            }
+            drop(bodies);
             Ok(log)
         }
         Err(_) => Err(Fail::from("not opened")),
@@ -39,152 +24,102 @@ fn framed(alloc: Global) -> Result<Body, Fail> {
     Ok(Body::from_framed(vec![in alloc; 4u8, 0, 0, 0, 1, 3, 1, 0x61, 0]?))
 }
 
-// Whether adding this body, which has these bytes, is answered with this number, and the bytes are handed back if they were
-// added.
-fn appends<D: Disk>(
-    alloc: Global,
-    log: &mut Log<D>,
-    body: Body,
-    bytes: &[u8],
-    number: u32,
-) -> bool {
+// The number of an answer that hands over other bytes than it should.
+const OTHER: u32 = 99;
+
+// The number of the answer if this body, which has these bytes, is added; an added body is handed back.
+fn appended<D: Disk>(alloc: Global, log: &mut Log<D>, body: Body, bytes: &[u8]) -> u32 {
     match log.append(alloc, body) {
-        Ok(kept) => number == 0 && kept.as_slice() == bytes,
-        Err(fault) => fault.number() == number,
+        Ok(kept) if kept.as_slice() == bytes => 0,
+        Ok(_) => OTHER,
+        Err(fault) => fault.number(),
     }
 }
 
-// Whether writing all again as a body of this many bytes, each 1, is answered with this number, and that body is handed over.
-fn rewrites<D: Disk>(
-    alloc: Global,
-    log: &mut Log<D>,
-    count: usize,
-    number: u32,
-) -> Result<bool, Fail> {
-    let bytes = vec![in alloc; 1u8; count]?;
-    match log.rewrite(alloc, one_body(alloc, &bytes)?) {
-        Ok(handed) => Ok(number == 0 && are_bodies(&handed, &[&bytes])),
-        Err(fault) => Ok(fault.number() == number),
+// The number of an answer that hands over the bodies of all records.
+fn handed(answer: Result<Vec<Body>, JournalFault>, wanted: &[&[u8]]) -> u32 {
+    match answer {
+        Ok(bodies) if are_bodies(&bodies, wanted) => 0,
+        Ok(_) => OTHER,
+        Err(fault) => fault.number(),
     }
 }
 
-// Whether a step is answered as it has to be.
-fn is_done<D: Disk>(alloc: Global, log: &mut Log<D>, step: Step) -> Result<bool, Fail> {
+// The number of the answer to a step.
+fn answer<D: Disk>(alloc: Global, log: &mut Log<D>, step: Step) -> Result<u32, Fail> {
     match step {
-        Step::Row { is_framed: true } => Ok(appends(alloc, log, framed(alloc)?, &ROW_BODY, 0)),
-        Step::Row { is_framed: false } => appends_bytes(alloc, log, &ROW_BODY, 0),
-        Step::Append(byte, count, number) => {
-            appends_bytes(alloc, log, &vec![in alloc; byte; count]?, number)
+        Step::Row => Ok(appended(alloc, log, framed(alloc)?, ROW_BODY)),
+        Step::Append(bytes) => {
+            let body = Body::new(Vec::from_slice(alloc, bytes)?);
+            Ok(appended(alloc, log, body, bytes))
         }
-        Step::Rewrite(count, number) => rewrites(alloc, log, count, number),
+        Step::Rewrite(bytes) => {
+            Ok(handed(log.rewrite(alloc, one_body(alloc, bytes)?), &[bytes]))
+        }
+        Step::Clear => Ok(handed(log.rewrite(alloc, Vec::new(alloc)), &[])),
     }
 }
 
-fn appends_bytes<D: Disk>(
-    alloc: Global,
-    log: &mut Log<D>,
-    bytes: &[u8],
-    number: u32,
-) -> Result<bool, Fail> {
-    let body = Body::new(Vec::from_slice(alloc, bytes)?);
-    Ok(appends(alloc, log, body, bytes, number))
-}
-
-// The disk, whose log has records with these bodies, after these steps were answered as they have to be. No step closes the log.
-fn played(
-    alloc: Global,
-    disk: MemoryDisk,
-    held: &[&[u8]],
-    steps: &[Step],
-) -> Result<MemoryDisk, Fail> {
-    let mut log = opened(alloc, disk, held)?;
-    let mut right = true;
-    for step in steps {
-        right = right && is_done(alloc, &mut log, *step)? && !log.is_closed();
-    }
-    if right {
+// The disk after a step on its log was answered as it has to be, and did not close the log.
+fn stepped(alloc: Global, disk: MemoryDisk, step: &(Step, u32)) -> Result<MemoryDisk, Fail> {
+    let mut log = opened(alloc, disk)?;
+    if answer(alloc, &mut log, step.0)? == step.1 && !log.is_closed() {
         Ok(log.into_disk())
     } else {
         Err(Fail::from("a step was answered otherwise"))
     }
 }
 
-#[test]
-fn a_framed_body(rt: HostRuntime) -> Result<(), Fail> {
-    let body = framed(rt.alloc())?;
-    let right = body.as_slice() == ROW_BODY.as_slice();
-    passes(Ok(right && body.into_vec().as_slice() == ROW_BODY.as_slice()))
+/// The disk of a new log that is opened again before each of these steps, once they were answered as they have to be.
+pub fn reopened(alloc: Global, steps: Steps) -> Result<MemoryDisk, Fail> {
+    let mut disk = formatted(alloc)?;
+    for step in steps {
+        disk = stepped(alloc, disk, step)?;
+    }
+    Ok(disk)
 }
 
-// Whether a log on this disk has records with these bodies.
-fn has_records(alloc: Global, disk: MemoryDisk, wanted: &[&[u8]]) -> bool {
+// Whether these steps are answered as they have to be, and none of them closes the log.
+fn are_done(alloc: Global, log: &mut Log<MemoryDisk>, steps: Steps) -> Result<bool, Fail> {
+    let mut right = true;
+    for (step, wanted) in steps {
+        right = right && answer(alloc, log, *step)? == *wanted && !log.is_closed();
+    }
+    Ok(right)
+}
+
+/// The disk of a new log after these steps, once they were answered as they have to be.
+pub fn played(alloc: Global, steps: Steps) -> Result<MemoryDisk, Fail> {
+    let mut log = opened(alloc, formatted(alloc)?)?;
+    if are_done(alloc, &mut log, steps)? {
+        Ok(log.into_disk())
+    } else {
+        Err(Fail::from("a step was answered otherwise"))
+    }
+}
+
+/// Whether a log on this disk has records with these bodies.
+pub fn has_records(alloc: Global, disk: MemoryDisk, wanted: &[&[u8]]) -> bool {
     match Log::open(alloc, disk) {
         Ok((_, bodies)) => are_bodies(&bodies, wanted),
         Err(_) => false,
     }
 }
 
-// If 54 bytes are left, a second body of 50 bytes does not fit: it would need 55 with its gate.
-const SECOND: [Step; 2] = [Step::Append(2, 50, 34), Step::Append(2, 49, 0)];
-
-// Whether the row is made from its body, and a second body then has as much room as it should.
-fn writes_the_row(alloc: Global, is_framed: &bool) -> Result<bool, Fail> {
-    let step = Step::Row {
-        is_framed: *is_framed,
-    };
-    let mut disk = played(alloc, formatted(alloc)?, &[], &[step])?;
-    let right = disk.size() == SIZE && has_parts(alloc, &mut disk, &[(0, &ROW)])?;
-    let disk = played(alloc, disk, &[&ROW_BODY], &SECOND)?;
-    Ok(right && has_records(alloc, disk, &[&ROW_BODY, &[2; 49]]))
-}
-
 #[test]
-fn a_log_writes_the_row(rt: HostRuntime) -> Result<(), Fail> {
-    each_passes(rt.alloc(), &[false, true], writes_the_row)
+fn a_framed_body(rt: HostRuntime) -> Result<(), Fail> {
+    let body = framed(rt.alloc())?;
+    let right = body.as_slice() == ROW_BODY;
+    passes(Ok(right && body.into_vec().as_slice() == ROW_BODY))
 }
 
-// Whether a body that is too long leaves an empty log as it was.
-fn leaves_all(alloc: Global, count: usize) -> Result<bool, Fail> {
-    let before = bytes_of(alloc, &mut formatted(alloc)?)?;
-    let mut disk = played(alloc, formatted(alloc)?, &[], &[Step::Append(7, count, 34)])?;
-    has_bytes(alloc, &mut disk, &before)
-}
-
-fn is_longest(alloc: Global, count: usize) -> Result<bool, Fail> {
-    let steps = [Step::Append(7, count, 0), Step::Append(0, 0, 34)];
-    let disk = played(alloc, formatted(alloc)?, &[], &steps)?;
-    Ok(has_records(alloc, disk, &[&[7; 58]]) && leaves_all(alloc, count.saturating_add(1))?)
-}
-
-#[test]
-fn the_longest_body_of_a_log(rt: HostRuntime) -> Result<(), Fail> {
-    passes(is_longest(rt.alloc(), 58))
-}
-
-fn is_written_anew(alloc: Global) -> Result<bool, Fail> {
-    let steps = [
-        Step::Append(7, 58, 0),
-        Step::Rewrite(59, 34),
-        Step::Rewrite(0, 0),
-        Step::Append(1, 54, 34),
-    ];
-    let mut disk = played(alloc, formatted(alloc)?, &[], &steps)?;
-    // Area B counts: it has an open gate, a body of no bytes, and a closed gate.
-    let right = has_parts(alloc, &mut disk, &[(0, &[1]), (80, &[0xa5, 0, 0, 0, 0, 0])])?;
-    let disk = played(alloc, disk, &[&[]], &[Step::Append(1, 53, 0)])?;
-    Ok(right && has_records(alloc, disk, &[&[], &[1; 53]]))
-}
-
-#[test]
-fn a_log_written_anew(rt: HostRuntime) -> Result<(), Fail> {
-    passes(is_written_anew(rt.alloc()))
-}
-
-// A log whose disk fails at the call after this many. Opening makes three.
+// A log whose disk fails at the call after this many calls. Opening makes three calls.
 fn closed_after(alloc: Global, passes: u64) -> Result<Log<FuseDisk<MemoryDisk>>, Fail> {
-    let fuse = FuseDisk::new(formatted(alloc)?, passes, FuseMode::Once);
-    let mut log = opened(alloc, fuse, &[])?;
-    if is_done(alloc, &mut log, Step::Append(1, 1, 35))? && log.is_closed() {
+    let mut log = opened(
+        alloc,
+        FuseDisk::new(formatted(alloc)?, passes, FuseMode::Once),
+    )?;
+    if answer(alloc, &mut log, Step::Append(&[1]))? == 35 && log.is_closed() {
         Ok(log)
     } else {
         Err(Fail::from("no 35"))
@@ -192,17 +127,19 @@ fn closed_after(alloc: Global, passes: u64) -> Result<Log<FuseDisk<MemoryDisk>>,
 }
 
 // Whether a log that is closed at such a call answers 36, and its disk has the same bytes after that.
-fn stays_closed(alloc: Global, passes: &u64) -> Result<bool, Fail> {
-    let before = bytes_of(alloc, &mut closed_after(alloc, *passes)?.into_disk())?;
-    let mut log = closed_after(alloc, *passes)?;
-    let rewritten = log
-        .rewrite(alloc, Vec::new(alloc))
-        .is_err_and(|fault| fault.number() == 36);
-    let appended = is_done(alloc, &mut log, Step::Append(1, 1, 36))?;
-    Ok(appended && rewritten && has_bytes(alloc, &mut log.into_disk(), &before)?)
+fn stays_closed(alloc: Global, passes: u64) -> Result<bool, Fail> {
+    let before = bytes_of(alloc, &mut closed_after(alloc, passes)?.into_disk())?;
+    let mut log = closed_after(alloc, passes)?;
+    let rewritten = answer(alloc, &mut log, Step::Clear)?;
+    let appended = answer(alloc, &mut log, Step::Append(&[1]))?;
+    let same = has_bytes(alloc, &mut log.into_disk(), &before)?;
+    Ok(rewritten == 36 && appended == 36 && same)
 }
 
 #[test]
 fn a_log_is_closed_after_a_failure(rt: HostRuntime) -> Result<(), Fail> {
-    each_passes(rt.alloc(), &[3, 4, 5, 6], stays_closed)
+    for calls in 3..7usize {
+        row_passes(calls, stays_closed(rt.alloc(), calls as u64))?;
+    }
+    Ok(())
 }

@@ -1,12 +1,12 @@
-// Every point of failure of a `rewrite`, in each mode and out of each area, and a crash after each.
+// Every point of failure of a `rewrite`, in each mode and from each area, and a crash after each.
 
 use crate::helpers::{formatted, holds, number, one_body, opened};
 use cc_disk::{Disk, FuseDisk, FuseMode, MemoryDisk};
 use std::alloc::Global;
 use std::test::Fail;
-use tests_texts::verdict::{each_passes, passes};
+use tests_texts::verdict::row_passes;
 
-// The calls of opening a journal with one record: a sync, the header, the records, which are read ahead.
+// How many device calls opening a journal with one record makes: a sync, a read of the header, and a read ahead of the records.
 const OPENING: u64 = 3;
 
 const OLD: [u8; 3] = [1, 2, 3];
@@ -24,8 +24,8 @@ fn with_old(alloc: Global, moved: bool) -> Result<MemoryDisk, Fail> {
     Ok(journal.into_disk())
 }
 
-// The disk after a rewrite whose device calls meet the fuse once this many have passed; whether the rewrite was made; and whether
-// later calls answer 36 and make no device call.
+// The disk after a rewrite that meets the fuse once this many of its device calls have passed; whether the rewrite answered Ok;
+// and whether later calls answer 36 and make no device call.
 fn rewritten(
     alloc: Global,
     moved: bool,
@@ -61,22 +61,20 @@ fn is_right(alloc: Global, disk: &MemoryDisk, done: bool) -> Result<bool, Fail> 
     Ok(true)
 }
 
-// Whether a rewrite is right if its device calls meet the fuse, in this mode, once this many have passed.
+// Whether a rewrite that meets the fuse, in this mode, once this many of its device calls have passed leaves the right records.
 fn survives(alloc: Global, moved: bool, calls: u64, mode: FuseMode) -> Result<bool, Fail> {
     let (disk, done, quiet) = rewritten(alloc, moved, calls, mode)?;
     Ok(quiet && done == (calls == 4) && is_right(alloc, &disk, done)?)
 }
 
-// The same for a rewrite out of either area.
-fn survives_in_each(alloc: Global, row: &(u64, FuseMode)) -> Result<bool, Fail> {
-    Ok(survives(alloc, false, row.0, row.1)? && survives(alloc, true, row.0, row.1)?)
-}
-
 #[test]
 fn every_failure_of_a_rewrite(rt: HostRuntime) -> Result<(), Fail> {
     for mode in [FuseMode::Once, FuseMode::Before, FuseMode::Within] {
-        let rows = [(0, mode), (1, mode), (2, mode), (3, mode), (4, mode)];
-        each_passes(rt.alloc(), &rows, survives_in_each)?;
+        for calls in 0..5usize {
+            for moved in [false, true] {
+                row_passes(calls, survives(rt.alloc(), moved, calls as u64, mode))?;
+            }
+        }
     }
     Ok(())
 }
@@ -92,7 +90,7 @@ fn each_value_of_a_torn_area_byte(rt: HostRuntime) -> Result<(), Fail> {
     let alloc = rt.alloc();
     let (disk, _, _) = rewritten(alloc, false, 2, FuseMode::Within)?;
     for byte in 0..=255u8 {
-        passes(is_torn(alloc, &disk, byte))?;
+        row_passes(byte as usize, is_torn(alloc, &disk, byte))?;
     }
     Ok(())
 }

@@ -1,12 +1,12 @@
-// Disks of random bytes: each is read as the format says.
+// Disks of random bytes. Each must be read as the format says.
 
 use crate::helpers::{ROW, SIZE, are_bodies, disk_of, part};
 use cc_journal::Journal;
 use std::alloc::Global;
 use std::test::Fail;
-use tests_texts::verdict::passes;
+use tests_texts::verdict::row_passes;
 
-// The next byte of numbers that look random, the same in each run.
+// The next byte of a sequence that looks random but is the same in each run.
 fn next_byte(state: &mut u64) -> u8 {
     *state = state
         .wrapping_mul(6_364_136_223_846_793_005)
@@ -14,7 +14,7 @@ fn next_byte(state: &mut u64) -> u8 {
     state.to_be_bytes()[0]
 }
 
-// The bytes of a disk: mostly the right header with any area byte, a first gate that is open, and after it many zeros.
+// The bytes of a disk: mostly a valid header with any area byte, an open first gate, and many zeros after it.
 fn random_disk(alloc: Global, state: &mut u64) -> Result<Vec<u8>, Fail> {
     let mut bytes = vec![in alloc; 0u8; SIZE]?;
     for (i, byte) in bytes.iter_mut().enumerate() {
@@ -52,7 +52,8 @@ fn bodies_in<'a>(area: &'a [u8], bodies: &mut Vec<&'a [u8]>) -> Result<bool, Fai
     Ok(false)
 }
 
-// Whether a disk of these bytes is refused with the number that the format says, or has the records that it says.
+// Whether a disk of these bytes is refused with the number that the format gives, or has the records that the format
+// gives.
 fn is_read(alloc: Global, bytes: &[u8]) -> Result<bool, Fail> {
     let start = match bytes {
         [first, ..] if first % 2 == 1 => 80,
@@ -60,7 +61,7 @@ fn is_read(alloc: Global, bytes: &[u8]) -> Result<bool, Fail> {
     };
     let mut bodies = Vec::new(alloc);
     let fits = bodies_in(part(bytes, start, start + 64), &mut bodies)?;
-    let number = if part(bytes, 1, 16) != part(&ROW, 1, 16) {
+    let number = if part(bytes, 1, 16) != part(ROW, 1, 16) {
         38
     } else if fits {
         0
@@ -73,17 +74,12 @@ fn is_read(alloc: Global, bytes: &[u8]) -> Result<bool, Fail> {
     }
 }
 
-// Whether the next random disk is read as the format says.
-fn is_next_read(alloc: Global, state: &mut u64) -> Result<bool, Fail> {
-    let bytes = random_disk(alloc, state)?;
-    is_read(alloc, &bytes)
-}
-
 #[test]
 fn random_bytes_are_read_as_the_format_says(rt: HostRuntime) -> Result<(), Fail> {
     let mut state = 1u64;
-    for _ in 0..10_000u32 {
-        passes(is_next_read(rt.alloc(), &mut state))?;
+    for number in 0..10_000usize {
+        let bytes = random_disk(rt.alloc(), &mut state)?;
+        row_passes(number, is_read(rt.alloc(), &bytes))?;
     }
     Ok(())
 }

@@ -12,7 +12,7 @@ pub struct SparseDisk {
 }
 
 impl SparseDisk {
-    /// A disk of that size with these bytes at these offsets. A read gives 0 for each other byte.
+    /// A disk of this size with these bytes at these offsets. A read gives 0 for every other byte.
     pub fn new(kept: Vec<(usize, u8)>, size: usize) -> SparseDisk {
         SparseDisk { kept, size }
     }
@@ -23,7 +23,7 @@ impl SparseDisk {
     }
 }
 
-// The bytes from that offset on, 0 for each that is not kept.
+// Fills the buffer with the bytes from this offset on, 0 for each that is not kept.
 fn recall(kept: &[(usize, u8)], offset: usize, buffer: &mut [u8]) {
     buffer.fill(0);
     for (at, byte) in kept {
@@ -34,7 +34,7 @@ fn recall(kept: &[(usize, u8)], offset: usize, buffer: &mut [u8]) {
     }
 }
 
-// Sets those of these bytes that are kept.
+// Sets those of the written bytes that the disk keeps.
 fn keep(kept: &mut [(usize, u8)], offset: usize, bytes: &[u8]) {
     for (at, byte) in kept.iter_mut() {
         let i = at.wrapping_sub(offset);

@@ -7,7 +7,7 @@ use std::alloc::Global;
 use std::test::Fail;
 use tests_texts::verdict::passes;
 
-// Two calls of `format`, three of `open`, four of each `append`.
+// Two device calls for `format`, three for `open`, and four for each `append`.
 const CALLS: u64 = 13;
 
 const FIRST: [u8; 3] = [1, 2, 3];
@@ -46,7 +46,8 @@ fn run(alloc: Global, passes: u64, mode: FuseMode) -> Result<(MemoryDisk, Reache
     Ok((journal.into_disk().into_disk(), reached))
 }
 
-// Whether what is recovered is a prefix of what was begun, and holds all that was kept.
+// Whether the recovered records are a prefix of those that were begun, and include all that were
+// acknowledged.
 fn is_right(alloc: Global, disk: MemoryDisk, reached: Reached) -> bool {
     match Journal::open(alloc, disk) {
         Ok(journal) => {
@@ -62,7 +63,8 @@ fn is_right(alloc: Global, disk: MemoryDisk, reached: Reached) -> bool {
     }
 }
 
-// Whether the disk is right if this many calls pass before the fuse is met, and stays so after each crash.
+// Whether the disk is right if this many calls pass before the fuse blows, and is still right after each
+// crash.
 fn survives(alloc: Global, passes: u64, mode: FuseMode) -> Result<bool, Fail> {
     let (disk, reached) = run(alloc, passes, mode)?;
     for byte in [0x00u8, 0xa5, 0xff] {

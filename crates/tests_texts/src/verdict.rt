@@ -13,11 +13,20 @@ pub fn passes(answer: Result<bool, Fail>) -> Result<(), Fail> {
     }
 }
 
-/// The same, but a failure also has this text.
+/// As `passes`, but a failure also has this text.
 pub fn passes_for(answer: Result<bool, Fail>, text: &str) -> Result<(), Fail> {
     match answer {
         Ok(true) => Ok(()),
         Ok(false) => Err(Fail::new(format_args!("it is not as it has to be: {text}"))),
+        Err(fail) => Err(fail),
+    }
+}
+
+/// Ok if the row of this number is as it should be; otherwise the failure has the number.
+pub fn row_passes(number: usize, answer: Result<bool, Fail>) -> Result<(), Fail> {
+    match answer {
+        Ok(true) => Ok(()),
+        Ok(false) => Err(Fail::new(format_args!("row {number} is not as it has to be"))),
         Err(fail) => Err(fail),
     }
 }
@@ -31,9 +40,7 @@ pub fn each_passes<T, F: Fn(Global, &T) -> Result<bool, Fail>>(
     requires { F.IsAlwaysCallable is_right }
 {
     for (number, row) in rows.iter().enumerate() {
-        if !is_right(alloc, row)? {
-            return Err(Fail::new(format_args!("row {number} is not as it has to be")));
-        }
+        row_passes(number, is_right(alloc, row))?;
     }
     Ok(())
 }

@@ -94,7 +94,7 @@ fn covered_runs(rt: HostRuntime) {
     }
 }
 
-// The first line that is no input, if there is one.
+// The number of the first line that is not an input, if there is one.
 fn bad_line(alloc: Global, lines: &[u8]) -> Option<usize> {
     match inputs_of(alloc, lines) {
         Ok(inputs) => {

@@ -71,7 +71,7 @@ static TOLD: [(&[u8], &str); 5] = [
     ),
 ];
 
-// What becomes of a line.
+// The object that a line becomes.
 fn object_of(alloc: Global, kind: LineKind, line: &[u8]) -> io::Result<Vec<u8>> {
     let mut writer = InJson::new(alloc, Vec::new(alloc), kind);
     writer.write_all(line)?;

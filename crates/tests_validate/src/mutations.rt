@@ -43,7 +43,7 @@ fn runs_alike(
     Ok(stop == other && here.is_same(&there))
 }
 
-// Whether the runs are alike in this way on ten inputs, with three lists of unknown words.
+// Whether `runs_alike` holds on ten inputs, each with three lists of unknown words.
 fn is_harmless(
     alloc: Global,
     program: &[RtlPair],

@@ -90,7 +90,7 @@ fn is_answered(alloc: Global, turns: u32, shift: u16) -> Result<bool, Fail> {
     }
 }
 
-// Whether this holds at each shift.
+// Whether the validator does so at each shift.
 fn are_answered(alloc: Global, turns: &u32) -> Result<bool, Fail> {
     Ok(
         is_answered(alloc, *turns, 0)?

@@ -37,7 +37,7 @@ free v = length v.locals
 abbrev pub object_of : Layout → List ℕ → ℕ
 object_of g x = unwrap_or (object_number g.objects x) 0
 
--- how wide the elements of that object are
+-- how wide the elements of the object with this name are
 abbrev pub width_of : Layout → List ℕ → Width
 width_of g x = (extent_of g.objects x).width
 
@@ -139,7 +139,7 @@ is_constant (Constant w) = true
 is_constant e = false
 
 -- what a branch on a comparison tests: a word that is 0 exactly if the comparison is, or exactly if it is not. `<=` is the
--- opposite of `<` with the operands exchanged; with a constant on the right it takes one instruction as it is.
+-- opposite of `<` with the operands exchanged; with a constant on the right, `<=` itself is one instruction.
 abbrev pub compared : binary.Binary → Expression → Expression → Expression
 compared two.LeS a b = if is_constant b then Binary two.LeS a b else Binary two.LtS b a
 compared two.LeU a b = if is_constant b then Binary two.LeU a b else Binary two.LtU b a
@@ -147,7 +147,7 @@ compared two.Eq a b = different a b
 compared two.Ne a b = different a b
 compared op a b = Binary op a b
 
--- whether the tested word is 0 exactly if the comparison is not
+-- whether the tested word is 0 exactly if the comparison is not 0
 abbrev pub is_opposite : binary.Binary → (right : Expression) → Bool
 is_opposite two.LeS b = not (is_constant b)
 is_opposite two.LeU b = not (is_constant b)
@@ -165,7 +165,7 @@ is_reversed (Unary op a) = is_zero_test op && not (is_reversed a)
 is_reversed (Binary op a b) = is_opposite op b
 is_reversed e = false
 
--- the first if the value of an expression is not 0, else the second
+-- a branch that runs the first statement if the value of an expression is not 0, else the second
 abbrev pub branch : Expression → (nonzero otherwise : Statement) → Statement
 branch e a b = if is_reversed e then If (condition e) b a else If (condition e) a b
 
@@ -202,7 +202,7 @@ abbrev pub are_plain : Exprs → Bool
 are_plain none = true
 are_plain (more e rest) = is_plain e && are_plain rest
 
--- that expression; any expression if the tree is not plain
+-- the expression of Cminor for a plain tree; any expression if the tree is not plain
 abbrev pub plain : Layout → Environment → Expr → Expression
 plain g v (Number t n) = Constant n
 plain g v (Variable x) = variable_of g v x.text
@@ -218,7 +218,7 @@ abbrev pub all_plain : Layout → Environment → Exprs → List Expression
 all_plain g v none = []
 all_plain g v (more e rest) = plain g v e ∷ all_plain g v rest
 
--- code that takes the value of an expression: the expression itself if it is plain, else variable k after its code
+-- code that uses the value of an expression: the expression itself if it is plain, else variable k after its code
 abbrev pub used : Bool → Expression → Statement → ℕ → (Expression → Statement) → Statement
 used true e code k f = f e
 used false e code k f = Sequence code (f (Local k))
@@ -276,18 +276,18 @@ abbrev mutual
   put_all g v k none = []
   put_all g v k (more e rest) = put_expr g v k e ∷ put_all g v (suc k) rest
 
--- code that takes the value of an expression
+-- code that uses the value of an expression
 abbrev pub using : Layout → Environment → ℕ → Expr → (Expression → Statement) → Statement
 using g v k e f = used (is_plain e) (plain g v e) (put_expr g v k e) k f
 
--- the same for an expression that may be absent, with the word to use without it
+-- code that uses the value of an expression, or the given word if the expression is absent
 abbrev pub using_or : Layout → Environment → ℕ → ℕ → Option Expr → (Expression → Statement) → Statement
 using_or g v k w None f = f (Constant w)
 using_or g v k w (Some e) f = using g v k e f
 
 -- ---- actions
 
--- the word to write, given an old value and the right side's
+-- the word to write, given the old value and that of the right side
 abbrev pub combined : Option BinaryOperator → Scalar → Scalar → Expression → Expression → Expression
 combined None t u old e = e
 combined (Some op) t u old e = binary_of op (working_type op t u) old e

@@ -1,4 +1,4 @@
--- A value that code takes: an expression, and the code before it if there is some.
+-- A value that code uses: an expression, and the code before it, if any.
 use Rattle.std.specs.Prelude.{ℕ, suc, Bool, true, false, List, Option, None, Some, option_map}
 use Rattle.std.specs.Global.{Box}
 use Rattle.cc_tokens.specs.declared.scalar.Scalar.{Scalar}
@@ -50,14 +50,14 @@ taken_as false e code k = waiting k code
 abbrev pub taken : Layout → Environment → ℕ → Expr → Taken
 taken g v k e = taken_as (is_plain e) (plain g v e) (put_expr g v k e) k
 
--- the same for an expression that may be absent, with the word to use without it
+-- the value of an expression, or the given word if the expression is absent
 abbrev pub taken_or : Layout → Environment → ℕ → ℕ → Option Expr → Taken
 taken_or g v k w None = at_once (Constant w)
 taken_or g v k w (Some e) = taken g v k e
 
 -- ---- what is built from values
 
--- a statement, after the code that has to precede the value that it takes
+-- a statement, after the code that has to precede the value that it uses
 abbrev pub behind_code : Option Statement → Statement → Statement
 behind_code None s = s
 behind_code (Some c) s = Sequence c s
@@ -67,7 +67,7 @@ abbrev pub kept : ℕ → Option Statement → Expression → Taken
 kept k None e = at_once e
 kept k (Some c) e = waiting k (Sequence c (Set k e))
 
--- puts the value into variable k, which has it already if the value waits
+-- puts the value into variable k; if the value waits, it is in k already
 abbrev pub put_in : ℕ → Option Statement → Expression → Statement
 put_in k None e = Set k e
 put_in k (Some c) e = c

@@ -1,4 +1,4 @@
--- Names that were judged.
+-- The names whose units were audited.
 use Rattle.std.specs.Prelude.{◌≡◌, ℕ, List}
 use Rattle.cc_link.specs.declared.audit_answer.Audit.{Audit}
 use Rattle.cc_library.specs.Apply.{Units}

@@ -4,8 +4,8 @@ use Rattle.cc_core.specs.declared.command.Reply.{Reply}
 use Rattle.cc_core.specs.declared.fault.CoreFault.{CoreFault}
 use Rattle.cc_core.specs.declared.fault.CoreFault.TheVariants as faults
 
--- a handler takes its step and answers the step's reply; or it answers 29 and there is no step; or it answers 40 and there is
--- one; after 29 and 40 everything is as before
+-- a handler takes its step and answers the step's reply; or it answers 29 and there is no step; or it answers 40 although
+-- there is a step; after 29 and 40 everything is as before
 abbrev pub Answers : {S : Type 0} → (Option Reply → S → Type 0) → Result (Option Reply) CoreFault → S → S → Type 0
 Answers {S} step result old new =
     IfOk result (λ reply. step reply new)

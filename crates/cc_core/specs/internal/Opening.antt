@@ -8,13 +8,13 @@ use Rattle.cc_library.specs.Recovered.{StandFor}
 use Rattle.cc_core.specs.declared.opening.Opened.{Opened}
 use Rattle.cc_core.specs.Run.{IsOrderOf}
 
--- the bytes hold these records in areas of that size; the records represent this map, and take this many bytes
+-- the bytes hold these records in areas of this size; the records represent this map and take `used` bytes
 pub record IsFound (image : List ℕ) (area : ℕ) (bodies : List (List ℕ)) (library : Units) (used : ℕ) : Type 0 where
   pub holds : HoldsRecords image area bodies
   pub stand : StandFor bodies library
   pub used_is : used ≡ length (records bodies)
 
--- the disk has these bytes, all of them settled; the rest of what was opened follows from these bytes
+-- the disk has these bytes, all of them settled; everything else in `opened` follows from them
 pub record IsOpenedAt (image : List ℕ) (opened : Opened) : Type 0 where
   pub bytes : bytes_of opened.store.cells ≡ image
   pub alone : LeavesAlone (bytes_of opened.store.cells) (IsImage opened.store.cells)

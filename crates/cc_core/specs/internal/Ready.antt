@@ -1,4 +1,4 @@
--- What a step needs of the state; every state that is reached has it.
+-- What a step requires of the state; every state that is reached meets this.
 use Rattle.std.specs.Prelude.{◌≡◌, ◌⊎◌, ℕ, ◌≤◌, ◌+◌, ◌^◌, List, [], ◌∷◌, ◌++◌, length, Some, None}
 use Rattle.std.specs.FinMap.{get, empty}
 use Rattle.cc_disk.specs.Model.{bytes_of, IsImage}
@@ -54,13 +54,14 @@ pub record IsWithin (commit : Commit) (store : StoreState) : Type 0 where
   pub first : commit.offset + length commit.bytes ≤ length store.cells
   pub second : commit.deciding_offset + 1 ≤ length store.cells
 
--- both writes of a rewrite lie within the disk, the first one has at least a closed gate, and everything fits in an area
+-- both writes of a rewrite lie within the disk, the first one contains at least a closed gate, and everything fits in an
+-- area
 pub record IsRewrite (commit : Commit) (store : StoreState) : Type 0 where
   pub within : IsWithin commit store
   pub some : 1 ≤ length commit.bytes
   pub room : length commit.bytes ≤ store.area
 
--- what each phase needs of the other parts of the state
+-- what each phase requires of the other parts of the state
 abbrev pub IsReadyIn : Phase → Units → StoreState → List Numbered → Type 0
 IsReadyIn Idle library store order = room_of (compacted library) ≤ store.area
 IsReadyIn (Committing client numbered due) library store order = HasRoom due store numbered.command
@@ -68,7 +69,7 @@ IsReadyIn (Rewriting commit due) library store order = IsRewrite commit store
 IsReadyIn (Failed failed) library store order = Unit {0}
 IsReadyIn Crashed library store order = IsRecoverable store order
 
--- what a step needs of the state
+-- what a step requires of the state
 abbrev pub IsReady : Core → Type 0
 IsReady s = IsReadyIn s.phase s.library s.store s.order
 

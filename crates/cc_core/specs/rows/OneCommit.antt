@@ -1,5 +1,5 @@
--- One commit on a new disk, computed; each state is the one that its step names. The last two show what a crash during the gate's
--- write leaves on the disk: the record if the gate was opened, otherwise no record.
+-- One commit on a new disk, computed; each state is computed from the one before by its step. The last two examples show what a
+-- crash during the gate's write leaves on the disk: the record if the gate was opened, otherwise no record.
 use Rattle.std.specs.Prelude.{◌≡◌, [], ◌∷◌, ◌++◌, drop, map, replicate, Some, None, Ok, refl}
 use Rattle.std.specs.FinMap.{empty}
 use Rattle.cc_disk.specs.Model.{bytes_of, settled}
@@ -68,11 +68,11 @@ one_commit = (
   record { numbered = first; committing = refl; done = refl; new_is = refl },
 )
 
--- the record takes 28 bytes, and is followed by a closed gate
+-- the record occupies 28 bytes, and is followed by a closed gate
 pub on_disk : (bytes_of done.store.cells ≡ header 0 64 ++ (records (body_of adds ∷ []) ++ (0 ∷ replicate 99 0))) × (done.store.used ≡ 28)
 on_disk = (refl, refl)
 
--- what is on the disk if a crash during the write of the gate leaves it open, and if it leaves it closed
+-- what is on the disk if a crash during the write of the gate leaves the gate open, and if it leaves the gate closed
 pub behind_the_gate : bytes_of (crashed_store (replicate 144 0xa5) gate_written.store).cells ≡ header 0 64 ++ (records (body_of adds ∷ []) ++ (0 ∷ replicate 99 0))
 behind_the_gate = refl
 

@@ -34,7 +34,7 @@ area_of_one = records (body_of adds ∷ []) ++ replicate 36 0
 pub on_disk : (bytes_of ended.cells ≡ header 1 64 ++ (area_of_one ++ area_of_one)) × (ended.area_byte ≡ 1) × (ended.used ≡ 28)
 on_disk = (refl, refl, refl)
 
--- a crash during the write of the area byte leaves any byte there, so either area may be in use; both have the record
+-- a crash during the write of the area byte may leave any byte there, so either area may be in use; both have the record
 pub the_second_area : bytes_of (crashed_store (0xa5 ∷ []) byte_written).cells ≡ header 0xa5 64 ++ (area_of_one ++ area_of_one)
 the_second_area = refl
 

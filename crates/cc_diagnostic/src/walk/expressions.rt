@@ -13,7 +13,8 @@ use cc_types::{
 };
 use cc_words::Width;
 
-/// What is written to: a variable of the function, a word of the objects, an array's element whose index is pushed, or nothing.
+/// What is written to: a variable of the function, a word of the objects, an array's element whose index has been pushed, or
+/// nothing.
 #[derive(Clone, Copy)]
 enum Slot<'a> {
     Local(usize),
@@ -36,7 +37,7 @@ struct Applied {
     at: usize,
 }
 
-// The type of the value of what a name denotes; `int` if the name denotes nothing or a `void` function.
+// The type of the value that a name denotes; `int` if the name denotes nothing or a `void` function.
 fn scalar_of(standing: Option<Standing<'_>>) -> Scalar {
     match standing {
         None => Scalar::Int,
@@ -76,7 +77,7 @@ fn slot_of<'a>(standing: Option<Standing<'_>>) -> Slot<'a> {
     }
 }
 
-// The instruction that pushes the value of what a name denotes.
+// The instruction that pushes the value that a name denotes.
 fn load(standing: Option<Standing<'_>>) -> Instruction<'_> {
     match slot_of(standing) {
         Slot::Local(number) => Instruction::Local(number),
@@ -274,7 +275,7 @@ impl<'a> Walk<'a> {
         self.store(goal, applied, Scalar::Int)
     }
 
-    // What a target is. If it is an element, its index is pushed.
+    // The goal for a target. If the target is an element, writes the instructions that push its index.
     fn goal(&mut self, target: &'a Target) -> Goal<'a> {
         match target {
             Target::Variable(name) => {
@@ -294,8 +295,8 @@ impl<'a> Walk<'a> {
         }
     }
 
-    // Stores the newest word, whose type is `right`, in the goal. If an operator is applied, it stores the operator's value for
-    // the old value there and that word.
+    // Stores the newest word, whose type is `right`, in the goal. If an operator is applied, its operands are the goal's old
+    // value and that word, and its value is stored instead.
     fn store(&mut self, goal: Goal<'a>, applied: Option<Applied>, right: Scalar) {
         if let Some(Applied { operator, at }) = applied {
             self.old_value(goal.slot);

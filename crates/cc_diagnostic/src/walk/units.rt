@@ -109,7 +109,7 @@ impl<'a> Walk<'a> {
         self.note(tree.at, Use::Constant, None);
     }
 
-    // Declares an object, whose elements get the next words of the objects.
+    // Declares an object, whose elements get the next free words at file scope.
     fn declare_object(
         &mut self,
         name: &'a Identifier,

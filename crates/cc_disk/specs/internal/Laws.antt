@@ -4,7 +4,7 @@ use Rattle.std.proofs.Common.{inl, inr, refl}
 use Rattle.cc_disk.specs.Model.{Cell, bytes_of, IsImage}
 use Rattle.cc_disk.specs.Past.{LeftSince}
 
--- after the last call there is only the state now
+-- since the last call only the present state may have left an image
 pub only_now_left : (now : List Cell) (past : List (List Cell)) (image : List ℕ) → LeftSince now past (length past) image → IsImage now image
 only_now_left now past image (inl here) = here
 only_now_left now [] image (inr none) = absurd none

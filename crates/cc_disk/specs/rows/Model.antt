@@ -2,11 +2,11 @@
 use Rattle.std.specs.Prelude.{◌≡◌, [], ◌∷◌, refl}
 use Rattle.cc_disk.specs.Model.{settled, new_cells, written, synced, crashed}
 
--- a new disk of four bytes, two bytes written at offset 1, and a crash: the choice's bytes are in the write's range
+-- a new disk of four bytes, two bytes written at offset 1, and a crash: the choice decides in that range
 pub a_write_and_a_crash : crashed (written (new_cells 4) 1 (7 ∷ 8 ∷ [])) (1 ∷ 2 ∷ 3 ∷ 4 ∷ []) ≡ settled 0 ∷ settled 2 ∷ settled 3 ∷ settled 0 ∷ []
 a_write_and_a_crash = refl
 
--- with a sync before the crash the written bytes remain
+-- after a sync before the crash the written bytes remain
 pub a_sync_and_a_crash : crashed (synced (written (new_cells 4) 1 (7 ∷ 8 ∷ []))) (1 ∷ 2 ∷ 3 ∷ 4 ∷ []) ≡ settled 0 ∷ settled 7 ∷ settled 8 ∷ settled 0 ∷ []
 a_sync_and_a_crash = refl
 

@@ -1,10 +1,10 @@
--- What comes before a frame, as the code has it.
+-- What comes before a frame, as the code represents it.
 use Rattle.std.specs.Prelude.{Option, Some, None, List, [], ◌∷◌, ◌++◌, drop}
 use Rattle.cc_select.specs.declared.step.Step.{Step}
 use Rattle.cc_emit.specs.declared.early.Ahead as found
 use Rattle.cc_emit.specs.Early.{Early, fork_of, early_by}
 
--- a list of at most one step
+-- an optional step as a list
 abbrev pub listed : Option Step → List Step
 listed None = []
 listed (Some step) = step ∷ []
@@ -12,7 +12,7 @@ listed (Some step) = step ∷ []
 abbrev pub shown : (code : List Step) → found.Ahead → Early
 shown code a = record { head = a.head.items; rest = drop a.taken code }
 
--- the same with light steps before it
+-- what comes before a frame, with the light steps `steps` in front
 abbrev pub with_before : List Step → Early → Early
 with_before steps e = record { head = steps ++ e.head; rest = e.rest }
 

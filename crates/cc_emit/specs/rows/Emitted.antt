@@ -27,7 +27,7 @@ use Rattle.cc_emit.specs.Branches.{comparison, turned}
 use Rattle.cc_emit.specs.Emission.{addi, branch_items, load_element, load_word, store_element, store_word, const_size, is_close}
 use Rattle.cc_emit.specs.Function.{function_items, items_with, whole_items}
 
--- 1 is added up once; the sum goes through a slot and through an element of the second object, whose address has a negative lower part
+-- a loop that adds 1 once; the sum goes through a slot and an element of the second object, whose address has a negative lower part
 abbrev loop : List LinearItem
 loop =
     Const 18 1 ∷ Const 19 0 ∷ Label 7 ∷ IfZero 18 9 ∷ Binary Add 19 19 18 ∷ Const 7 1 ∷ Binary Sub 18 18 7 ∷ Jump 7 ∷ Label 9 ∷ Copy (Spill 1 19) ∷ Copy (Reload 10 1) ∷ Store Word 1 7 10 ∷ Load Word 1 10 7 ∷ Write
@@ -41,10 +41,9 @@ abbrev words_of : (a : ℕ) → List PieceItem → List ℕ
 words_of a [] = []
 words_of a (i ∷ is) = encoding_of (filled (λ g. 0) 0x10000 a i) ∷ words_of (a + 4) is
 
--- addi x2, x2, -16; sw x18, 8(x2); sw x19, 12(x2); addi x18, x0, 1; addi x19, x0, 0; beq x18, x0, 20; add x19, x19, x18;
--- addi x7, x0, 1; sub x18, x18, x7; jal x0, -16; sw x19, 4(x2); lw x10, 4(x2);
--- slli x5, x7, 2; lui x6, 513; add x5, x5, x6; sw x10, -1024(x5); lw x10, -1024(x5);
--- addi x17, x0, 1; ecall; lw x18, 8(x2); lw x19, 12(x2); addi x2, x2, 16; jalr x0, 0(x1)
+-- addi x2, x2, -16; sw x18, 8(x2); sw x19, 12(x2); addi x18, x0, 1; addi x19, x0, 0; beq x18, x0, 20; add x19, x19, x18; addi x7, x0, 1;
+-- sub x18, x18, x7; jal x0, -16; sw x19, 4(x2); lw x10, 4(x2); slli x5, x7, 2; lui x6, 513; add x5, x5, x6; sw x10, -1024(x5); lw x10,
+-- -1024(x5); addi x17, x0, 1; ecall; lw x18, 8(x2); lw x19, 12(x2); addi x2, x2, 16; jalr x0, 0(x1)
 loop_words : words_of 0x10000 items
     ≡ 0xff010113 ∷ 0x01212423 ∷ 0x01312623 ∷ 0x00100913 ∷ 0x00000993 ∷ 0x00090a63 ∷ 0x012989b3 ∷ 0x00100393 ∷ 0x40790933 ∷ 0xff1ff06f ∷ 0x01312223 ∷ 0x00412503 ∷ 0x00239293 ∷ 0x00201337 ∷ 0x006282b3 ∷ 0xc0a2a023
     ∷ 0xc002a503 ∷ 0x00100893 ∷ 0x00000073 ∷ 0x00812903 ∷ 0x00c12983 ∷ 0x01010113 ∷ 0x00008067 ∷ []
@@ -75,7 +74,7 @@ called = record { pc = 0x10000; registers = λ r. if r == 2 then 0x700000 else i
 seen : State → List ℕ
 seen s = s.pc ∷ s.registers 18 ∷ s.registers 19 ∷ s.registers 2 ∷ s.registers 10 ∷ s.memory 0x200c04 ∷ s.output
 
--- the run comes back with x2, x18 and x19 as they were; the sum is in x10 and in the object, and was written
+-- the run comes back with x2, x18 and x19 as they were; the sum is in x10 and in the object, and has been written to the output
 ran : seen (steps 24 called) ≡ 0x20004 ∷ 1018 ∷ 1019 ∷ 0x700000 ∷ 1 ∷ 1 ∷ 1 ∷ []
 unfolding seen
 ran = refl
@@ -96,8 +95,8 @@ leaf = refl
 
 -- ---- what comes before a frame
 
--- a test and the return to which it leads: slti x5, x10, 2; beq x5, x0, 8; jalr x0, 0(x1); then the frame, in which a label's return is as
--- before
+-- a test and the return to which it leads: slti x5, x10, 2; beq x5, x0, 8; jalr x0, 0(x1); then the frame, which still has the label and
+-- its return
 returns_early : function_items (λ g. 0) 0 (BranchImmediate immediate.LtS true 10 2 7 ∷ One (Call 3) ∷ One (Label 7) ∷ One Return ∷ [])
     ≡ Plain (OpImm Slti 5 10 2) ∷ Plain (instr.Branch Beq 5 0 8) ∷ Plain (Jalr 0 1 0) ∷ addi 2 2 0xfffffffc ∷ store_word 2 1 0 ∷ item.Call 3 ∷ load_word 1 2 0 ∷ addi 2 2 4 ∷ Plain (Jalr 0 1 0) ∷ []
 returns_early = refl
@@ -139,7 +138,7 @@ bytes : function_items (object_address (record { width = Byte; elements = 5 } �
     ≡ Plain (Lui 6 0x200) ∷ Plain (Op operation.Add 5 7 6) ∷ store_element Byte 5 10 8 ∷ load_element Byte 10 5 8 ∷ load_element Byte 7 6 10 ∷ store_element Byte 6 10 10 ∷ []
 bytes = refl
 
--- 300 goes to byte 1 of the second object, which keeps 44 of it, between bytes that stay: 0xaabbccdd becomes 0xaabb2cdd; 44 is loaded
+-- 300 is stored in byte 1 of the second object, which keeps only 44; the bytes around it stay: 0xaabbccdd becomes 0xaabb2cdd
 abbrev byte_instructions : List Instr
 byte_instructions =
     instructions 0x10000 (function_items (object_address (record { width = Byte; elements = 5 } ∷ record { width = Byte; elements = 3 } ∷ [])) 0 (map One (Const 7 1 ∷ Const 10 300 ∷ Store Byte 1 7 10 ∷ Load Byte 1 10 7 ∷ Write ∷ Return ∷ [])))
@@ -171,7 +170,7 @@ whole access items = Plain (Shift Slli 5 7 2) ∷ Plain (Lui 6 0x200) ∷ Plain 
 abbrev with_upper : (access : PieceItem) → List PieceItem → List PieceItem
 with_upper access items = Plain (Shift Slli 5 7 2) ∷ Plain (Op operation.Add 5 5 6) ∷ access ∷ items
 
--- the same element again, and that of another object with the same upper part: only the accesses
+-- the same element again, and the one with the same number in another object with the same upper part: only the accesses
 again : function_items near_by 0 (One (Load Word 0 10 7) ∷ One (Load Word 0 11 7) ∷ One (Store Word 1 7 10) ∷ []) ≡ whole (load_word 10 5 0) (load_word 11 5 0 ∷ store_word 5 10 16 ∷ [])
 again = refl
 
@@ -188,15 +187,15 @@ far_by_x3 : function_items near_by 0 (One (Load Word 0 10 7) ∷ LoadNear Word 0
     ≡ Plain (Lui 3 0x201) ∷ addi 3 3 0xfffff800 ∷ Plain (Shift Slli 5 7 2) ∷ Plain (Op operation.Add 5 5 3) ∷ load_word 10 5 0xfffff800 ∷ load_word 11 5 0 ∷ []
 far_by_x3 = refl
 
--- the element's number has changed then; x6 still holds the upper part
+-- between the loads the register of the element's number changes; x6 still holds the upper part
 number_written : function_items near_by 0 (One (Load Word 0 10 7) ∷ Immediate immediate.Add 7 7 1 ∷ One (Load Word 0 11 7) ∷ []) ≡ whole (load_word 10 5 0) (addi 7 7 1 ∷ with_upper (load_word 11 5 0) [])
 number_written = refl
 
--- the same happens if the load itself writes the register of its number
+-- the load itself changes the register of the element's number; x6 still holds the upper part
 own_number : function_items near_by 0 (One (Load Word 0 7 7) ∷ One (Load Word 0 7 7) ∷ []) ≡ whole (load_word 7 5 0) (with_upper (load_word 7 5 0) [])
 own_number = refl
 
--- and if x5 is used between the loads, here to ask whether a register's word is not 7
+-- x5 is used between the loads, here to test whether a register's word is not 7; x6 still holds the upper part
 between : function_items near_by 0 (One (Load Word 0 10 7) ∷ Immediate immediate.Ne 11 10 7 ∷ One (Load Word 0 12 7) ∷ []) ≡ whole (load_word 10 5 0) (addi 5 10 0xfffffff9 ∷ Plain (Op operation.Sltu 11 0 5) ∷ with_upper (load_word 12 5 0) [])
 between = refl
 
@@ -204,7 +203,7 @@ between = refl
 word_between : function_items near_by 0 (One (Load Word 0 10 7) ∷ One (Const 11 0x12345678) ∷ One (Load Word 0 12 7) ∷ []) ≡ whole (load_word 10 5 0) (Plain (Lui 11 0x12345) ∷ addi 11 11 0x678 ∷ load_word 12 5 0 ∷ [])
 word_between = refl
 
--- a label and a call forget both registers; a branch that is not taken leaves them
+-- after a label or a call nothing is known about either register; a branch that is not taken leaves both known
 label_between : function_items near_by 0 (One (Load Word 0 10 7) ∷ One (Label 1) ∷ One (Load Word 0 11 7) ∷ []) ≡ whole (load_word 10 5 0) (whole (load_word 11 5 0) [])
 label_between = refl
 
@@ -214,7 +213,8 @@ call_between = refl
 branch_between : function_items near_by 0 (One (Load Word 0 10 7) ∷ One (IfZero 10 1) ∷ One (Load Word 0 11 7) ∷ One (Label 1) ∷ []) ≡ whole (load_word 10 5 0) (Plain (instr.Branch Beq 10 0 8) ∷ load_word 11 5 0 ∷ [])
 branch_between = refl
 
--- object 256 lies at 0x201000: its upper part replaces the other one in x6, also after the element whose address is in x5
+-- object 256 lies at 0x201000: its upper part replaces the other one in x6, and is still there after an access to the element whose address
+-- is in x5
 far_between : function_items near_by 0 (One (Load Word 0 10 7) ∷ LoadAt Word 256 11 0 ∷ One (Load Word 0 12 7) ∷ LoadAt Word 256 13 1 ∷ One (Load Word 256 14 7) ∷ [])
     ≡ whole (load_word 10 5 0) (Plain (Lui 6 0x201) ∷ load_word 11 6 0 ∷ load_word 12 5 0 ∷ load_word 13 6 4 ∷ with_upper (load_word 14 5 0) [])
 far_between = refl
@@ -229,17 +229,17 @@ byte_of_that_number = refl
 abbrev with_pointer : List PieceItem → List PieceItem
 with_pointer items = Plain (Lui 3 0x201) ∷ addi 3 3 0xfffff800 ∷ items
 
--- three accesses of one instruction each; without x3 each would make an upper part: object 1 lies at 0x200010, 2032 bytes before the word
--- in x3
+-- three accesses of one instruction each; without x3 each would first set x6 to the upper part: object 1 lies at 0x200010, 2032 bytes
+-- before the word in x3
 known_by_x3 : function_items near_by 0 (LoadAt Word 1 10 0 ∷ One (Label 1) ∷ LoadAt Word 1 11 0 ∷ One (Label 2) ∷ StoreAt Word 1 2 11 ∷ One Return ∷ [])
     ≡ with_pointer (load_word 10 3 0xfffff810 ∷ load_word 11 3 0xfffff810 ∷ store_word 3 11 0xfffff818 ∷ Plain (Jalr 0 1 0) ∷ [])
 known_by_x3 = refl
 
--- two accesses save no more than setting x3 takes; nor do three if one of them finds the upper part in x6
+-- two accesses save no more than setting x3 costs; nor do three if one of them finds the upper part in x6
 two_alone : function_items near_by 0 (LoadAt Word 1 10 0 ∷ One (Label 1) ∷ LoadAt Word 1 11 0 ∷ LoadAt Word 2 12 0 ∷ []) ≡ Plain (Lui 6 0x200) ∷ load_word 10 6 16 ∷ Plain (Lui 6 0x200) ∷ load_word 11 6 16 ∷ load_word 12 6 32 ∷ []
 two_alone = refl
 
--- one access in a loop counts as eight; one between a branch and the label to which it goes on does not
+-- one access in a loop counts as eight; one between a branch and a later label to which it leads does not
 in_loop : function_items near_by 0 (One (Label 1) ∷ LoadAt Word 1 10 0 ∷ One (IfZero 10 1) ∷ []) ≡ with_pointer (load_word 10 3 0xfffff810 ∷ Plain (instr.Branch Beq 10 0 0xfffffffc) ∷ [])
 in_loop = refl
 
@@ -252,12 +252,12 @@ elements_by_x3 : items_with near_by true 0 (One (Load Word 0 10 7) ∷ One (Stor
 elements_by_x3 = refl
 
 -- two elements with the same number, whose objects lie at 0x200000 and 0x200c00 and have different upper parts: the second takes one
--- instruction by x3
+-- instruction with x3
 other_uppers : function_items near_by 0 (One (Load Word 0 10 7) ∷ One (Load Word 192 11 7) ∷ []) ≡ with_pointer (Plain (Shift Slli 5 7 2) ∷ Plain (Op operation.Add 5 5 3) ∷ load_word 10 5 0xfffff800 ∷ load_word 11 5 1024 ∷ [])
 other_uppers = refl
 
 -- objects 240 and 256 lie at 0x200f00, within the reach of x3, and at 0x201000, and have the same upper part: without x3 the second access
--- takes one instruction, with it four, so the function does not gain
+-- takes one instruction, with x3 four, so the function does not gain
 abbrev from_one_upper : List PieceItem → List PieceItem
 from_one_upper items = Plain (Shift Slli 5 7 2) ∷ Plain (Lui 6 0x201) ∷ Plain (Op operation.Add 5 5 6) ∷ load_word 10 5 0xffffff00 ∷ load_word 11 5 0 ∷ items
 
@@ -266,7 +266,7 @@ one_upper : function_items near_by 0
     ≡ from_one_upper (from_one_upper (from_one_upper []))
 one_upper = refl
 
--- and if x5 holds that element's address because of the upper part, x3 is not used
+-- x3 is not used if x5 already holds the element's address, computed from the upper part
 by_upper_first : items_with near_by true 0 (One (Load Word 256 10 7) ∷ One (Load Word 240 11 7) ∷ [])
     ≡ with_pointer (Plain (Shift Slli 5 7 2) ∷ Plain (Lui 6 0x201) ∷ Plain (Op operation.Add 5 5 6) ∷ load_word 10 5 0 ∷ load_word 11 5 0xffffff00 ∷ [])
 by_upper_first = refl
@@ -285,7 +285,7 @@ farthest : items_with near_by true 0 (LoadAt Word 255 10 3 ∷ LoadAt Word 256 1
     ≡ with_pointer (load_word 10 3 2044 ∷ Plain (Lui 6 0x201) ∷ load_word 11 6 0 ∷ load_word 12 3 2032 ∷ load_word 13 6 4 ∷ [])
 farthest = refl
 
--- x3 is set before the frame, and still there after a call
+-- x3 is set before the frame is made, and still has its word after a call
 behind_call : items_with near_by true 0 (One (Call 3) ∷ LoadAt Word 0 10 0 ∷ One Return ∷ [])
     ≡ with_pointer (addi 2 2 0xfffffffc ∷ store_word 2 1 0 ∷ item.Call 3 ∷ load_word 10 3 0xfffff800 ∷ load_word 1 2 0 ∷ addi 2 2 4 ∷ Plain (Jalr 0 1 0) ∷ [])
 behind_call = refl
@@ -309,7 +309,7 @@ on_registers : function_items (λ g. 0) 0 (One (Label 1) ∷ Branch LtS true 10 
     ≡ branch Blt 10 11 0 ∷ branch Bltu 11 10 0xfffffffc ∷ branch Bge 11 10 0xfffffff8 ∷ branch Bne 10 11 0xfffffff4 ∷ []
 on_registers = refl
 
--- comparisons with a word that a comparison with 0 replaces: equal to 0, at least 0, more than 0, the same unsigned, less than 0; less than
+-- comparisons with a word, each replaced by a comparison with 0: equal to 0, at least 0, more than 0, also unsigned, less than 0; less than
 -- 1, at most 0, at most -1; less than 1 and at most 0, unsigned; not at least 1, unsigned
 against_zero : function_items (λ g. 0) 0
     (One (Label 1) ∷ BranchImmediate immediate.Eq true 10 0 1 ∷ BranchImmediate immediate.GeS true 10 0 1 ∷ BranchImmediate immediate.GtS true 10 0 1 ∷ BranchImmediate immediate.GtU true 10 0 1 ∷ BranchImmediate immediate.LtS true 10 0 1
@@ -318,12 +318,12 @@ against_zero : function_items (λ g. 0) 0
     ∷ branch Beq 10 0 0xffffffdc ∷ branch Beq 10 0 0xffffffd8 ∷ []
 against_zero = refl
 
--- other comparisons take an instruction into x5 before the branch: equal to 5; less than 5; at least 5; not different from 5
+-- other comparisons need an instruction that sets x5 before the branch: equal to 5; less than 5; at least 5; not different from 5
 on_words : function_items (λ g. 0) 0 (One (Label 1) ∷ BranchImmediate immediate.Eq true 10 5 1 ∷ BranchImmediate immediate.LtS true 10 5 1 ∷ BranchImmediate immediate.GeS true 10 5 1 ∷ BranchImmediate immediate.Ne false 10 5 1 ∷ [])
     ≡ addi 5 10 0xfffffffb ∷ branch Beq 5 0 0xfffffffc ∷ Plain (OpImm Slti 5 10 5) ∷ branch Bne 5 0 0xfffffff4 ∷ Plain (OpImm Slti 5 10 5) ∷ branch Beq 5 0 0xffffffec ∷ addi 5 10 0xfffffffb ∷ branch Beq 5 0 0xffffffe4 ∷ []
 on_words = refl
 
--- a far branch that is not taken goes over a jump
+-- a far branch: the opposite branch over a jump
 far : branch_items false (turned true (comparison LtS 10 11)) 0 5000 ≡ branch Bge 10 11 8 ∷ item.Go 5000 ∷ []
 far = refl
 

@@ -1,4 +1,4 @@
--- Which nodes wait, as a flag for each node and as a heap of those that do.
+-- Which nodes wait, as a flag for each node and as a heap of the nodes that wait.
 use Rattle.std.specs.Prelude.{◌≡◌, ℕ, List, Bool, false, ◌==◌, get_or, sum_by, [], ◌∷◌, ◌+◌, if◌then◌else◌}
 
 -- whether a node waits

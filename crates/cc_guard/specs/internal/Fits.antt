@@ -32,7 +32,7 @@ Fits n b (Block s) = Fits n (suc b) s
 Fits n b (Exit k) = k < b
 Fits n b (Return e) = Under n e
 
--- a call that gives an answer leaves each object its size
+-- a call that answers keeps the size of each object
 abbrev pub KeepsSizes : Meaning → Type 0
 KeepsSizes meaning =
     (n opened f : ℕ) (ws : List ℕ) (h : World) (a : Answer) (left : ℕ) → meaning.call n opened f ws h ≡ Gives a left

@@ -7,7 +7,7 @@ use Rattle.cc_cminor.specs.Breaks.{TracksOrBreaks}
 use Rattle.cc_guard.specs.Guard.{guarded_function}
 use Rattle.cc_guard.specs.internal.Fits.{Fits, KeepsSizes}
 
--- If code keeps up with a meaning, or breaks while the meaning is not finished, then once it is guarded it keeps up with the
+-- If code keeps up with a meaning, or breaks while the meaning is not finished, then the guarded code keeps up with the
 -- meaning, at the same rate. The code reads only variables below n, and the guards set variables from n on.
 abbrev pub GuardedKeepsUp : Type 0
 GuardedKeepsUp =

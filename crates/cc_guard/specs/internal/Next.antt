@@ -1,11 +1,11 @@
--- What remains to be done after a statement of guarded code, and what is known of variables at the start of each part of it.
+-- What remains to be done after a statement of guarded code, and what is known about variables at the start of each part.
 use Rattle.std.specs.Prelude.{ℕ, suc, List, [], ◌∷◌}
 use Rattle.cc_simulation.specs.World.{Size}
 use Rattle.cc_cminor.specs.Cminor.{Statement, Exit, Continuation, Ends, Then, Again, Leaving}
 use Rattle.cc_guard.specs.declared.known.Limit.{Limit}
 use Rattle.cc_guard.specs.Guard.{forever, code_after}
 
--- a continuation, with what is known at the start of each part; for a block, that is what is known after it, on every way out
+-- a continuation, with what is known at the start of each part; for a block, what is known after it on every way out
 pub data Noted : Type 0 where
   Last : Noted
   AndThen : List Limit → Statement → Noted → Noted

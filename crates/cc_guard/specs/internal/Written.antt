@@ -31,17 +31,17 @@ is_byte Word = false
 abbrev pub codes : (blocks : ℕ) → List Guard → List Statement
 codes b gs = map (guard_code b) gs
 
--- after the guards written before, these guards were added; they set variables below `upto` and leave the bounds `facts` known
+-- these guards were added after the earlier ones; they set variables below `upto`, and the bounds `facts` are known after them
 pub record Adds (blocks : ℕ) (gs : List Guard) (upto : ℕ) (facts : List Limit) (old new : Guards) : Type 0 where
   pub before : statements_of new.before.items ≡ statements_of old.before.items ++ codes blocks gs
   pub next : new.next ≡ upto
   pub known : new.known.items ≡ facts
 
--- the guards of an expression were added, or of a list of expressions
+-- the guards of an expression, or of a list of expressions, were added
 abbrev pub AddsAll : (blocks : ℕ) → Guarded → Guards → Guards → Type 0
 AddsAll b g old new = Adds b g.before g.next g.known old new
 
--- a value as it is now, once guards were written
+-- a value as it is now, after the guards written so far
 abbrev pub here : Guards → Expression → Guarded
 here old e = record { before = []; value = e; next = old.next; known = old.known.items }
 
@@ -51,7 +51,7 @@ abbrev pub some_of : {A : Type 0} → List A → Bool
 some_of [] = false
 some_of (x ∷ xs) = true
 
--- what was seen of a statement is added: whether it has a guard, and how many variables its guards need
+-- `new` adds what was seen of a statement: whether it has a guard, and how many variables its guards need
 pub record Sees (some : Bool) (count : ℕ) (old new : Seen) : Type 0 where
   pub guards : new.guards ≡ (old.guards || some)
   pub variables : new.variables ≡ max old.variables count

@@ -14,7 +14,7 @@ objects = record { width = Word; elements = 3 } ∷ record { width = Byte; eleme
 abbrev stop_from : Expression → Expression → Statement
 stop_from n i = If (Binary LeU n i) (Exit 0) Skip
 
--- `a[i] += b[i]`: one test is enough for both elements, since b has no fewer than a
+-- `a[i] += b[i]`: one test is enough for both elements, since b has at least as many as a
 two_arrays : guarded_code objects 4 0 (Store Word 0 (Local 0) (Binary Add (Load Word 0 (Local 0)) (Load Byte 1 (Local 0))))
     ≡ Sequence (stop_from (Constant 3) (Local 0)) (Store Word 0 (Local 0) (Binary Add (Load Word 0 (Local 0)) (Load Byte 1 (Local 0))))
 two_arrays = refl
@@ -25,7 +25,7 @@ nested : guarded_code objects 4 0 (Set 1 (Load Word 0 (Load Byte 1 (Binary Add (
     (Sequence (Set 5 (Load Byte 1 (Local 4))) (Sequence (stop_from (Constant 3) (Local 5)) (Set 1 (Load Word 0 (Local 5))))))
 nested = refl
 
--- what is evident has no guard: `x = b[y & 3] << 31`, `x = a[y % 3] / 10`
+-- operations that evidently have a value get no guard: `x = b[y & 3] << 31`, `x = a[y % 3] / 10`
 evident : guarded_code objects 4 0 (Set 0 (Binary Shl (Load Byte 1 (Binary And (Local 1) (Constant 3))) (Constant 31))) ≡ Set 0 (Binary Shl (Load Byte 1 (Binary And (Local 1) (Constant 3))) (Constant 31))
 evident = refl
 
@@ -79,23 +79,21 @@ kept_in_loop : guarded_code objects 4 0 (Sequence (Set 1 (Constant 2)) (Sequence
     ≡ Sequence (Set 1 (Constant 2)) (Sequence (Set 2 (Constant 2)) (Loop (Sequence (Set 0 (Load Word 0 (Local 1))) (Sequence (stop_from (Constant 3) (Local 2)) (Set 2 (Load Word 0 (Local 2)))))))
 kept_in_loop = refl
 
--- a loop that counts to a limit: what its condition shows is known in each turn, and the counter at the head is at most that
--- limit
+-- a loop that counts to a limit: what its condition shows is known in each turn, and the counter at the head is at most that limit
 counted : guarded_code objects 4 0
     (Sequence (Set 1 (Constant 0)) (Block (Loop (If (Binary LtS (Local 1) (Constant 3)) (Sequence (Set 0 (Load Word 0 (Local 1))) (Set 1 (Binary Add (Local 1) (Constant 1)))) (Exit 0)))))
     ≡ Sequence (Set 1 (Constant 0)) (Block (Loop (If (Binary LtS (Local 1) (Constant 3)) (Sequence (Set 0 (Load Word 0 (Local 1))) (Set 1 (Binary Add (Local 1) (Constant 1)))) (Exit 0))))
 counted = refl
 
--- a loop that counts one too far; and a loop whose body is a block that an exit leaves: nothing is known about the counter after
--- the block
+-- a loop that counts one too far; and a loop whose body is a block that an exit leaves: nothing is known about the counter after the block
 too_far : guarded_code objects 4 0
     (Sequence (Set 1 (Constant 0)) (Block (Loop (If (Binary LeS (Local 1) (Constant 3)) (Sequence (Set 0 (Load Word 0 (Local 1))) (Set 1 (Binary Add (Local 1) (Constant 1)))) (Exit 0)))))
     ≡ Sequence (Set 1 (Constant 0)) (Block (Loop (If (Binary LeS (Local 1) (Constant 3))
     (Sequence (Sequence (If (Binary LeU (Constant 3) (Local 1)) (Exit 1) Skip) (Set 0 (Load Word 0 (Local 1)))) (Set 1 (Binary Add (Local 1) (Constant 1)))) (Exit 0))))
 too_far = refl
 
--- one way goes on elsewhere, so the other way's bound is known afterwards: `if (x < 3) ; else return`; and one way corrects the
--- value: `if (2 < x) x = 2`
+-- one way returns, so the other way's bound is known afterwards: `if (x < 3) ; else return`; and one way corrects the value:
+-- `if (2 < x) x = 2`
 one_way : guarded_code objects 4 0 (Sequence (If (Binary LtU (Local 1) (Constant 3)) Skip (Return (Constant 0))) (Set 0 (Load Word 0 (Local 1))))
     ≡ Sequence (If (Binary LtU (Local 1) (Constant 3)) Skip (Return (Constant 0))) (Set 0 (Load Word 0 (Local 1)))
 one_way = refl

@@ -28,7 +28,7 @@ chosen : (b : Bool) (r : Result StoredUnit ℕ) (u : StoredUnit) → cond {A = R
 chosen true r u is = is
 chosen false r u is = absurd (cc)
 
--- a unit made from all pieces is linked for the unit of the first one, which is of the source
+-- if pieces are all the pieces of a source, the unit made from them has this source and agrees with it
 pub whole_units_agree : (text : List ℕ) (pieces : List Piece) (unit : StoredUnit) → AreWhole compiling text pieces → All Keeps pieces → unit_of text pieces ≡ Ok unit → (unit.source ≡ text) × is_right unit
 whole_units_agree text [] unit whole kept is = absurd (cc)
 whole_units_agree text (piece ∷ pieces) unit whole kept is =

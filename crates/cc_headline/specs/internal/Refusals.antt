@@ -1,4 +1,4 @@
--- The compiler's faults as the core's refusals: 40 stays 40, and each other fault refuses with its number.
+-- The compiler's faults as the core's refusals: 40 stays 40, and every other fault refuses with its number.
 use Rattle.std.specs.Prelude.{ℕ, ◌==◌, if◌then◌else◌}
 use Rattle.cc_core.specs.declared.fault.BuildRefusal.{BuildRefusal}
 use Rattle.cc_core.specs.declared.fault.BuildRefusal.TheVariants as build

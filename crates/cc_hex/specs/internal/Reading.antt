@@ -1,4 +1,4 @@
--- Reading one part and then the next. If one says nothing, neither does the whole.
+-- Reading one part and then the next. If one of them says nothing, neither does the whole.
 use Rattle.std.specs.Prelude.{Option, Some, None}
 
 infixl 10 ◌>>=◌

@@ -30,7 +30,7 @@ bases : read (codes ":01000700FFF9\n:020000040001F9\n:0100070001F7\n:02000004000
 unfolding read
 bases = refl
 
--- past an offset's end the next 65,536 bytes begin, and the highest address is followed by 0
+-- past the highest offset, the next 65,536 bytes begin, and the highest address is followed by 0
 past_ends : read (codes ":02FFFF000102FD\n:02000004FFFFFC\n:02FFFF000304F9\n:00000001FF\n")
     ≡ Some (cells_from 65535 (1 ∷ 2 ∷ []) ++ cells_from 0xFFFFFFFF (3 ∷ []) ++ cells_from 0 (4 ∷ []))
 unfolding read
@@ -74,7 +74,7 @@ no_colon : read (codes "00000001FF\n") ≡ None
 unfolding read
 no_colon = refl
 
--- one byte less than the record says, and one more, each with the right checksum
+-- one byte fewer than the record says, and one more, each with the right checksum
 too_short : read (codes ":0200070001F6\n:00000001FF\n") ≡ None
 unfolding read
 too_short = refl

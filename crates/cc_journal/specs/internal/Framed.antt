@@ -2,7 +2,7 @@
 use Rattle.std.specs.Prelude.{◌≡◌, ℕ, ◌<◌, ◌^◌, Bool, true, false, List, length}
 use Rattle.cc_journal.specs.Commit.{behind_gate}
 
--- the bytes are what comes after the gate of some record
+-- if `is_framed` is true, the bytes are what comes after the gate of some record
 abbrev pub IsFramed : (is_framed : Bool) (bytes : List ℕ) → Type 0
 IsFramed false bytes = Unit {0}
 IsFramed true bytes = (body : List ℕ) × (length body < 2 ^ 32) × (bytes ≡ behind_gate body)

@@ -4,11 +4,11 @@ use Rattle.cc_journal.specs.declared.fault.JournalFault.{JournalFault}
 use Rattle.cc_journal.specs.declared.fault.JournalFault.TheVariants.{Full, DiskFault, Closed, Damaged, NotALibrary, OutOfMemory}
 use Rattle.cc_journal.specs.Format.{header, records, record_bytes, open_gate}
 
--- `bytes` are those of `seen` from that offset on, as far as they go
+-- `bytes` are the first bytes of `seen` from this offset on
 abbrev pub Shows : ℕ → (bytes seen : List ℕ) → Type 0
 Shows offset bytes seen = bytes ≡ take (length bytes) (drop offset seen)
 
--- these bytes begin with a header, for an area of that size that begins at that offset
+-- these bytes begin with a header whose area in use has this size and begins at `start`
 pub record BeginsWith (bytes : List ℕ) (start area : ℕ) : Type 0 where
   pub area_byte : ℕ
   pub rest : List ℕ
@@ -22,7 +22,7 @@ pub record EndsClosed (bytes : List ℕ) (bodies : List (List ℕ)) : Type 0 whe
   pub is : bytes ≡ records bodies ++ gate ∷ behind
   pub closed : gate ≢ open_gate
 
--- what reading one record finds at the start of these bytes, if this many bytes of the area are left
+-- what reading one record finds at the start of these bytes, if the area has `left` bytes from there on
 abbrev pub FindsRecord : List ℕ → ℕ → Result (Option (List ℕ)) JournalFault → Type 0
 FindsRecord bytes left (Ok None) = (gate : ℕ) × (rest : List ℕ) × (bytes ≡ gate ∷ rest) × (gate ≢ open_gate)
 FindsRecord bytes left (Ok (Some body)) = (rest : List ℕ) × (bytes ≡ record_bytes body ++ rest)

@@ -16,7 +16,7 @@ abbrev pub byte_in : List ℕ → Option (ℕ × List ℕ)
 byte_in [] = None
 byte_in (byte ∷ rest) = Some (byte, rest)
 
--- this many bytes
+-- the first `n` bytes
 abbrev pub taken : ℕ → List ℕ → Option (List ℕ × List ℕ)
 taken n bytes = if nat_lt (length bytes) n then None else Some (take n bytes, drop n bytes)
 
@@ -24,7 +24,7 @@ taken n bytes = if nat_lt (length bytes) n then None else Some (take n bytes, dr
 abbrev pub number_in : List ℕ → Option (ℕ × List ℕ)
 number_in bytes = if nat_lt (length bytes) 4 then None else Some (from_le_bytes w32 (take 4 bytes), drop 4 bytes)
 
--- this many words
+-- the first words of these bytes, as many as the number says
 unfoldable pub words_in : ℕ → List ℕ → Option (List ℕ × List ℕ)
 words_in zero bytes = Some ([], bytes)
 words_in (suc n) bytes = do
@@ -32,7 +32,7 @@ words_in (suc n) bytes = do
   others ← words_in n first.1
   Some (first.0 ∷ others.0, others.1)
 
--- a length of at least `least` and at most `most`, and that many words
+-- a count of at least `least` and at most `most`, and that many words
 unfoldable pub words_field_in : ℕ → ℕ → List ℕ → Option (List ℕ × List ℕ)
 words_field_in least most bytes = do
   n ← number_in bytes

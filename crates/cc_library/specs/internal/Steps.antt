@@ -10,7 +10,7 @@ use Rattle.cc_library.specs.Recovered.{RecoversAlone}
 use Rattle.cc_library.specs.declared.command.Edit.{Edit}
 use Rattle.cc_library.specs.Runs.{after_edit}
 
--- one more record: 37 exactly if its body is not that of a command that the map accepts
+-- the replay of one more record: 37 exactly if its body does not spell a command that the map accepts
 abbrev pub ReplaysBody : Units → List ℕ → Result Units LibraryFault → Type 0
 ReplaysBody old body (Ok new) = (command : LibraryCommand) × Spells body command × IsOk (apply old command) × (new ≡ after old command)
 ReplaysBody old body (Err Damaged) = (command : LibraryCommand) → Spells body command → IsOk (apply old command) → ⊥
@@ -22,12 +22,11 @@ ReplaysBody old body (Err Absent) = ⊥
 ReplaysBody old body (Err Full) = ⊥
 ReplaysBody old body (Err Closed) = ⊥
 
--- either the image has the old records and recovers only to the old map, or it has the new records and recovers only to the new
--- map
+-- either the image has the old records and recovers only to the old map, or it has the new records and recovers only to the new map
 abbrev pub IsOldOrNew : ℕ → List (List ℕ) → Units → List (List ℕ) → Units → List ℕ → Type 0
 IsOldOrNew area bodies old made new image =
     (HoldsAlone image area bodies × RecoversAlone image old) ⊎ (HoldsAlone image area made × RecoversAlone image new)
 
--- what a crash in the middle of an edit with this number leaves: the map before it, or, if it was done, the map after it
+-- what a crash during an edit with this number leaves: the map before it, or, if the number is 0 or 35, the map after it
 abbrev pub IsMidEdit : Units → Edit → ℕ → List ℕ → Type 0
 IsMidEdit units edit number image = RecoversAlone image units ⊎ (((number ≡ 0) ⊎ (number ≡ 35)) × RecoversAlone image (after_edit units edit))

@@ -12,7 +12,7 @@ abbrev pub has : List ℕ → ℕ → Bool
 has [] l = false
 has (x ∷ xs) l = if x == l then true else has xs l
 
--- whether an item stays: each does, unless it is a label that is not among these
+-- whether an item stays: each does, unless it is a label that is not in `led`
 abbrev pub stays : (led : List ℕ) → LinearItem → Bool
 stays led (Label l) = has led l
 stays led item = true

@@ -34,7 +34,7 @@ is_empty block = is_nop block.operation && (has_none block.before && has_none bl
 abbrev pub tail_of : (ℕ → ℕ) → Block → List ℕ → List LinearItem → List LinearItem
 tail_of end block order items = if is_empty block then Jump (end (next block.operation)) ∷ items else leads (end (next block.operation)) order items
 
--- a branch falls through to whichever way comes next
+-- a branch falls through to whichever successor comes next
 abbrev pub branch_then : (ℕ → ℕ) → (from taken other : ℕ) → List ℕ → List LinearItem → List LinearItem
 branch_then end from taken other order items = if is_next (end taken) order then IfZero from (end other) ∷ items else IfNonzero from (end taken) ∷ leads (end other) order items
 
@@ -60,7 +60,7 @@ HasSuccessors end order (Branch from taken other) = Contains order (end taken) �
 HasSuccessors end order Return = Unit {0}
 HasSuccessors end order op = Contains order (end (next op))
 
--- an order of labels: each occurs only once, and all labels that the entry reaches are there
+-- an order of labels: each occurs only once, and all labels that the entry reaches are in it
 pub record IsOrder (ltl : Ltl) (end : ℕ → ℕ) (order : List ℕ) : Type 0 where
   pub distinct : AllPairs (λ a b. a ≡ b → ⊥) order
   pub entry : Contains order (end ltl.entry)

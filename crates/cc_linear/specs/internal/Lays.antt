@@ -62,7 +62,7 @@ pub record Straight (code : List LinearItem) (end : ℕ → ℕ) (l : ℕ) (bloc
   pub stands : StandsIn code (end (next block.operation))
   pub jumps : IsNop block.operation → block.before ≡ [] → block.after ≡ [] → (behind : List LinearItem) × (tail ≡ Jump (end (next block.operation)) ∷ behind)
 
--- a branch that jumps if the register is nonzero, or if it is zero; the other way follows
+-- a branch that jumps if the register is nonzero, or if it is zero; the other successor follows
 abbrev pub BranchesTo : List LinearItem → (ℕ → ℕ) → ℕ → List Move → (from taken other : ℕ) → List LinearItem → Type 0
 BranchesTo code end l before from taken other tail =
     ((place code l ≡ Label l ∷ moves_then before (IfNonzero from (end taken) ∷ tail)) × GoesOnAt code tail (end other))
@@ -84,11 +84,11 @@ Stands code end l block (Branch from taken other) = Branches code end l block fr
 Stands code end l block Return = Leaves code l block
 Stands code end l block _ = Straight code end l block
 
--- n has the same end as l, and is nearer to it
+-- n has the same end as l, and is nearer to that end
 abbrev pub Nearer : (end far : ℕ → ℕ) → ℕ → ℕ → Type 0
 Nearer end far l n = (end n ≡ end l) × (far n < far l)
 
--- an empty block may be passed over; so may a branch, if both of its ways end at the same label
+-- an empty block may be passed over; so may a branch, if the chains from both successors end at the same label
 abbrev pub Passes : (end far : ℕ → ℕ) → ℕ → Operation → Type 0
 Passes end far l (Nop n) = Nearer end far l n
 Passes end far l (Branch from taken other) = Nearer end far l taken × Nearer end far l other
@@ -99,7 +99,7 @@ pub record IsPassed (end far : ℕ → ℕ) (l : ℕ) (block : Block) : Type 0 w
   pub after : block.after ≡ []
   pub passes : Passes end far l block.operation
 
--- `end` gives where each label's chain of empty blocks leads, `far` how far away that is
+-- `code` lays out the blocks; `end` is the label at which each label's chain of empty blocks ends, and `far` is how far away it is
 pub record Lays (ltl : Ltl) (code : List LinearItem) (end far : ℕ → ℕ) (most : ℕ) : Type 0 where
   pub low : (l : ℕ) → far l ≤ most
   pub entry : GoesOnAt code code (end ltl.entry)

@@ -44,7 +44,7 @@ graph_of labels ends blocks = map (λ (b : Block). ways_of labels ends b.operati
 abbrev pub labels_at : List ℕ → List ℕ → List ℕ
 labels_at labels order = map (λ p. get_or labels p 0) order
 
--- the order of the label that comes next, if there is one
+-- the order that has only the label that comes next, if there is one
 abbrev pub listed : Option ℕ → List ℕ
 listed None = []
 listed (Some l) = l ∷ []

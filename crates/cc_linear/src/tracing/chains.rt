@@ -1,12 +1,12 @@
-// An order in which code falls through the likely way, and a loop's test is at its bottom. No proof depends on it.
+// An order in which code falls through to the likely successor, and a loop's test is at the loop's bottom. No proof depends on it.
 //
 // Blocks are joined into chains, in which each block falls through to the next. Places are in the order of labels, and labels in the order
-// of the source. So a way to a place that does not come later leads back to the head of a loop. Blocks are joined in this order:
+// of the source. So a block whose successor does not come later leads back to the head of a loop. Blocks are joined in this order:
 // 1. the blocks that only lead back, the last one of a loop first (others come from `continue`), so that the head, with the loop's test,
 //    comes after the loop's body, and a turn needs no jump;
-// 2. the blocks that have one way, unless it leads into a loop;
-// 3. the branches: each is joined to its way for a word that is 0, which leads out of a loop or past an `if`, or to its other way if the
-//    block there already follows another one;
+// 2. the blocks that have one successor, unless it is the head of a loop;
+// 3. the branches: each is joined to its successor for a word that is 0, which leads out of a loop or past an `if`, or to its other
+//    successor if the first one already follows another block;
 // 4. the blocks that lead into a loop.
 
 ghost use Rattle.std.specs.Prelude.{◌≡◌, ◌<◌, length, vec_len, IfOk, All};
@@ -15,7 +15,7 @@ ghost use Rattle.cc_linear.specs.internal.Reached.{InGraph};
 use super::ways::Ways;
 use std::alloc::{AllocError, Global};
 
-/// Chains of labels that follow one another. The number of labels in place of a label means that there is none.
+/// Chains of labels that follow one another. In place of a label, the number of labels means that there is no label.
 #[derive(Drop)]
 struct Chains {
     behind: Vec<usize>,
@@ -87,7 +87,7 @@ fn join_back(chains: &mut Chains, graph: &[Ways], is_found: &[bool])
     }
 }
 
-/// Joins the blocks that have one way: those that lead to heads of loops, or the others.
+/// Joins the blocks that have one successor: those that lead to heads of loops, or the others.
 fn join_on(
     chains: &mut Chains,
     graph: &[Ways],
@@ -149,7 +149,7 @@ fn heads(alloc: Global, graph: &[Ways], is_found: &[bool]) -> Result<Vec<bool>, 
     Ok(is_head)
 }
 
-/// Marks the end of a way that leads back.
+/// Marks the label `to` as the head of a loop if `from` leads back to it.
 fn mark_back(is_head: &mut Vec<bool>, from: usize, to: usize)
     requires { to < length is_head.old.items }
     ensures { length is_head.new.items ≡ length is_head.old.items }

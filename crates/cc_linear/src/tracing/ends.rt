@@ -5,7 +5,7 @@ ghost use Rattle.cc_linear.specs.internal.Ends.{Sound, HasEnds};
 
 use std::alloc::{AllocError, Global};
 
-/// Gives a label the end of the next one, if that is known.
+/// Sets the end of a label to the end of the next label, if that end is known.
 fn settle(next: &[usize], known: &mut Vec<bool>, ends: &mut Vec<usize>, label: usize)
     requires inside { All (λ n. n < length next.now) next.now }
     requires known_long { length known.old.items ≡ length next.now }
@@ -46,7 +46,7 @@ pub fn chain_ends(alloc: Global, next: &[usize]) -> Result<Vec<usize>, AllocErro
             path.push(at)?;
             at = next[at];
         }
-        // the path has come to a known chain, or to a cycle, which keeps this label
+        // the path has reached a known chain, or a cycle, which keeps this label
         known[at] = true;
         while let Some(label) = path.pop() {
             settle(next, &mut known, &mut ends, label);

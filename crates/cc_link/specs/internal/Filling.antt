@@ -5,7 +5,7 @@ use Rattle.cc_emit.specs.declared.item.PieceItem.{PieceItem}
 use Rattle.cc_emit.specs.declared.item.PieceItem.TheVariants.{Plain, Call, Go}
 use Rattle.cc_emit.specs.Contract.{IsPlace}
 
--- what is lent
+-- the lists that are lent
 abbrev pub lent : List (Bor (List PieceItem)) → List (List PieceItem)
 lent bodies = map (λ (b : Bor (List PieceItem)). b.now) bodies
 
@@ -23,17 +23,17 @@ abbrev pub AllStayIn : (functions : ℕ) → List (List PieceItem) → Type 0
 AllStayIn functions [] = Unit {0}
 AllStayIn functions (f ∷ fs) = StayIn functions (length f) f × AllStayIn functions fs
 
--- each function has a place
+-- each of these is a valid place
 abbrev pub ArePlaces : List ℕ → Type 0
 ArePlaces places = (f : ℕ) → f < length places → IsPlace (slice_index places f)
 
--- an item leads to a place
+-- a call or a jump of this item leads to a valid place
 abbrev pub Leads : (places : List ℕ) (place : ℕ) → PieceItem → Type 0
 Leads places place (Plain i) = Unit {0}
 Leads places place (Call f) = (f < length places) × IsPlace (slice_index places f)
 Leads places place (Go n) = IsPlace (place + 4 * n)
 
--- items can be at a place: that is a valid place, and so is the one after the last item
+-- the items can be at this place: this place and the one after the last item are valid, and each item stays in its function
 pub record CanStand (functions place : ℕ) (items : List PieceItem) : Type 0 where
   pub from : IsPlace place
   pub to : IsPlace (place + 4 * length items)
@@ -44,7 +44,7 @@ abbrev pub places_from : (a : ℕ) → List (List PieceItem) → List ℕ
 places_from a [] = []
 places_from a (f ∷ fs) = a ∷ places_from (a + 4 * length f) fs
 
--- the functions can all be there, one after the other, the first at the address a
+-- all the functions can be in order at their places, the first at the address a
 abbrev pub CanAllStand : (functions a : ℕ) → List (List PieceItem) → Type 0
 CanAllStand functions a [] = Unit {0}
 CanAllStand functions a (f ∷ fs) = CanStand functions a f × CanAllStand functions (a + 4 * length f) fs

@@ -1,4 +1,4 @@
--- What a row holds after each change, register by register; and what the step over a node makes of what is live after it.
+-- What a row holds after each change, register by register; and what is live before a node, given what is live after it.
 use Rattle.std.proofs.Common.{◌≡◌, ◌≢◌, ℕ, zero, suc, ◌*◌, ◌/◌, ◌%◌, ◌^◌, ◌<◌, List, [], ◌∷◌, ◌++◌, length, replicate, get_or, refl, sym, ap, ◌∙◌, subst, Bool, true, false, ◌==◌, ◌&&◌, ◌||◌, not, if◌then◌else◌, IsTrue, arith, inl, inr, ◌⊎◌, Contains}
 use Rattle.std.specs.Prelude.{Option, Some, None}
 use Rattle.std.specs.Int.{bit_at}
@@ -141,7 +141,7 @@ but_for_in : (o : Option ℕ) (row : List ℕ) (r : ℕ) → IsTrue (holds row r
 but_for_in None row r h d = h
 but_for_in (Some to) row r h d = those_in (λ x. not (to == x)) row r h (some_apart to r d)
 
--- a register that is held is not the unread result; and the result of a pure node is its result
+-- a register that is held is not the unread result; and what a pure node writes is its result
 other : (to r : ℕ) (row : List ℕ) → IsTrue (not (holds row to)) → IsTrue (holds row r) → Some to ≢ Some r
 other to r row u h e =
     let z : Some to ≡ Some r = e in
@@ -167,7 +167,7 @@ module _ (strong : Bool) (n : Node) (row : List ℕ) where
   abbrev pub drops : Bool
   drops = strong && is_unread row (pure_result n)
 
-  -- what is live before a node was read by the node, if that is not left out, or was live after it and is not its result
+  -- a register live before a node is read by it, if the node is not left out, or is live after it and is not its result
   pub live_before_cases : (r : ℕ) → IsTrue (holds (live_before strong n row) r) → ((drops ≡ false) × Contains (reads n) r) ⊎ (IsTrue (holds row r) × (result n ≢ Some r))
   live_before_cases r h = go drops refl h
     where
@@ -205,7 +205,7 @@ live_before_up strong n x y h r i = elim (live_before_cases strong n x r i) [
   | inr (behind, d) ↦ behind_live_before strong n y r (h r behind) d
 ]
 
--- ---- the step as the code makes it
+-- ---- the step as the code computes it
 
 pub result_apart : (o : Option ℕ) (r : ℕ) → IsTrue (not (is_result o r)) → o ≢ Some r
 result_apart None r h e = absurd (let z : None ≡ Some r = e in cc)

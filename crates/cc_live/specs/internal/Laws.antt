@@ -1,4 +1,4 @@
--- The laws of rows, as lemmas: they are a lattice, and the step over a node is monotone.
+-- The laws of rows, as lemmas: rows form a lattice, and the step over a node is monotone.
 use Rattle.std.proofs.Common.{◌≡◌, ℕ, zero, suc, List, [], ◌∷◌, sym, ◌∙◌, Bool, true, false, ◌||◌, IsTrue}
 use Rattle.std.proofs.lemmas.Bool.{or_left, or_right}
 use Rattle.cc_flow.specs.Lattice.{IsLattice, Equivalent}

@@ -5,7 +5,7 @@ use Rattle.cc_library.specs.declared.fault.LibraryFault.{LibraryFault}
 use Rattle.cc_library.specs.declared.fault.LibraryFault.TheVariants.{Exists, Absent, Full, DiskFault, Closed, Damaged, NotALibrary, OutOfMemory}
 use Rattle.cc_library.specs.Recovered.{AreSpelled}
 
--- 37 comes only if the bodies spell no commands; otherwise memory ran out
+-- the fault is 37, and the bodies do not spell commands; or memory ran out
 abbrev pub IsUnread : List (List ℕ) → LibraryFault → Type 0
 IsUnread bodies Damaged = (commands : List LibraryCommand) → AreSpelled bodies commands → ⊥
 IsUnread bodies OutOfMemory = Unit {0}

@@ -1,4 +1,4 @@
--- Reading a function from left to right: each field gives a value and the bytes after it, or nothing.
+-- Reading a function from left to right: each field yields a value and the bytes after it, or nothing.
 use Rattle.std.specs.Prelude.{◌≡◌, ℕ, zero, suc, ◌&&◌, List, [], ◌∷◌, length, take, drop, Option, Some, None, Result, Ok, Err, slice_get, nat_lt, nat_le, ◌==◌, if◌then◌else◌}
 use Rattle.std.specs.Option.{option_map}
 use Rattle.std.specs.Int.{w16, w32, from_le_bytes}
@@ -33,7 +33,7 @@ Gives view (Err OutOfMemory) read = Unit {0}
 abbrev pub Reads : {A : Type 0} → Option (A × List ℕ) → Option A → List ℕ → Type 0
 Reads read result after = option_map (λ x. (x, after)) result ≡ read
 
--- a reader of a value gives the value and the bytes after it, or nothing
+-- a reader of a value yields the value and the bytes after it, or nothing
 abbrev pub Reader : Type 0 → Type 0
 Reader A = List ℕ → Option (A × List ℕ)
 
@@ -50,7 +50,7 @@ unfoldable pub times : {A : Type 0} → Reader A → ℕ → Reader (List A)
 times f zero bytes = Some ([], bytes)
 times f (suc n) bytes = f bytes >>= λ first. times f n first.1 >>= λ others. Some (first.0 ∷ others.0, others.1)
 
--- reads nothing; one byte; a number of two bytes; a number of four bytes
+-- the readers of nothing, of one byte, of a number of two bytes, and of a number of four bytes
 abbrev pub nothing_in : Reader (Unit {0})
 nothing_in bytes = Some (tt, bytes)
 
@@ -64,7 +64,7 @@ half_in bytes = if nat_lt (length bytes) 2 then None else Some (from_le_bytes w1
 abbrev pub word_in : Reader ℕ
 word_in bytes = if nat_lt (length bytes) 4 then None else Some (from_le_bytes w32 (take 4 bytes), drop 4 bytes)
 
--- reads a register; a slot
+-- the readers of a register and of a slot
 unfoldable pub register_in : Reader ℕ
 register_in bytes = byte_in bytes >>= λ b. if nat_le 7 b.0 && nat_lt b.0 32 then Some b else None
 
@@ -80,7 +80,7 @@ unary_operators = Neg ∷ Complement ∷ IsZero ∷ []
 abbrev pub binary_operators : List BinaryOperator
 binary_operators = Add ∷ Sub ∷ Mul ∷ DivS ∷ DivU ∷ RemS ∷ RemU ∷ Shl ∷ ShrS ∷ ShrU ∷ And ∷ Or ∷ Xor ∷ Eq ∷ Ne ∷ LtS ∷ LtU ∷ LeS ∷ LeU ∷ []
 
--- reads the position of an element in a list, as one byte, and gives the element
+-- reads the position of an element in a list, as one byte, and returns the element
 abbrev pub one_of : {A : Type 0} → List A → Reader A
 one_of xs bytes = byte_in bytes >>= λ b. slice_get xs b.0 >>= λ x. Some (x, b.1)
 
@@ -181,7 +181,7 @@ blocks_in bytes = word_in bytes >>= λ n. times block_in n.0 n.1
 unfoldable pub slots_in : Reader ℕ
 slots_in bytes = word_in bytes >>= λ n. if nat_le n.0 most_slots then Some n else None
 
--- the parts of the function that all these bytes spell; whether the parts go together is not asked
+-- the parts of the function that all these bytes spell; whether the parts go together is not checked
 unfoldable pub parts_in : List ℕ → Option Ltl
 parts_in bytes =
     mapped (λ x. record { slots = x.0; entry = x.1.0; blocks = x.1.1 }) (both slots_in (both word_in blocks_in)) bytes

@@ -38,7 +38,7 @@ difference_text = refl
 abbrev nothing : World
 nothing = record { globals = []; input = []; output = [] }
 
--- each call answers 9 and takes no steps
+-- each call answers 9 and uses no steps
 abbrev nine : ℕ → Question → Effect
 nine j q = Gives (record { value = 9; world = q.world }) j
 

@@ -15,12 +15,12 @@ short_cut LogicalAnd n = Some (AndThen n)
 short_cut LogicalOr n = Some (OrElse n)
 short_cut op n = None
 
--- an instruction that may be absent
+-- the list of an instruction, or the empty list if the instruction is absent
 abbrev pub some_code : Option Instruction → List Instruction
 some_code None = []
 some_code (Some i) = i ∷ []
 
--- the instructions with an operation in place of the one that `behind` instructions follow, unless there is a short cut
+-- unless there is a short cut, the instructions with an operation in place of the one that `behind` others follow
 abbrev pub operated : Option Instruction → BinaryOperation → ℕ → List Instruction → List Instruction
 operated (Some i) op behind code = code
 operated None op behind code = slice_set code (length code - (behind + 1)) (Binary op)

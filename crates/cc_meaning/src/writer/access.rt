@@ -16,7 +16,7 @@ pub fn load(names: &Environment<'_>, name: &[u8]) -> Instruction
     }
 }
 
-/// The instruction that stores a word in a variable, or applies an operation to the variable's old value and the word.
+/// The instruction that stores in a variable a word, or the value of an operation on the variable's old value and the word.
 pub fn store(names: &Environment<'_>, applied: Option<BinaryOperation>, name: &[u8]) -> Instruction
     ensures { result ≡ store_of applied names.now name.now }
 {
@@ -35,8 +35,8 @@ pub fn store(names: &Environment<'_>, applied: Option<BinaryOperation>, name: &[
     }
 }
 
-/// The instruction that stores a word in an element of an array, or applies an operation as `store` does; the index is below the
-/// word.
+/// The instruction that does in an element of an array what `store` does in a variable; the index is below the word on the
+/// stack.
 pub fn store_element(
     names: &Environment<'_>,
     applied: Option<BinaryOperation>,

@@ -1,4 +1,4 @@
-// The instructions of expressions, each written before those that are written already.
+// The instructions of expressions, which precede the instructions that are written already.
 //
 // The recursion is as deep as the tree, which has at most 512 tokens in a full expression.
 
@@ -56,7 +56,7 @@ fn variable(
     Ok(names.variable_type(name.bytes.as_slice()))
 }
 
-// Writes an element whose index is pushed.
+// Writes an element whose index has already been pushed.
 fn element(
     names: &Environment<'_>,
     code: &mut Emitter,
@@ -95,8 +95,8 @@ fn skip_right(code: &mut Emitter, operator: BinaryOperator, behind: usize) -> Re
     }
 }
 
-// Puts the operation on two words of these types in place of the instruction that `behind` instructions follow. `&&` and `||`
-// have none.
+// Replaces the instruction that is followed by `behind` instructions with the operation on two words of these types. `&&` and
+// `||` have no operation.
 fn operate(code: &mut Emitter, operator: BinaryOperator, behind: usize, left: Scalar, right: Scalar)
     requires { behind < length code.old }
     ensures { code.new ≡ operated (short_cut operator 0) (operation operator (working_type operator left right)) behind code.old }

@@ -1,4 +1,4 @@
-// Statements, each written before the instructions of those that follow it.
+// Statements. The instructions of each precede those of the statements after it.
 //
 // The statements of a list are written from last to first. All names that they declare are in scope before that, and each
 // declaration removes its own names. The recursion is as deep as the tree: at most 64 levels.
@@ -70,7 +70,7 @@ fn statement<'a>(
     }
 }
 
-// Writes a statement that is a scope of its own.
+// Writes a statement that has its own scope.
 #[cycle(resolved_statements)]
 fn inner_statement<'a>(
     names: &mut Environment<'a>,
@@ -90,8 +90,8 @@ fn inner_statement<'a>(
     Ok(())
 }
 
-// Writes a condition and the branch for a condition that holds. Another branch may follow; if the condition does not hold, the
-// jump goes to the place that `second` instructions follow.
+// Writes a condition and the branch that runs if the condition holds. Another branch may follow; if the condition does not
+// hold, the jump goes to the place that `second` instructions follow.
 #[cycle(resolved_statements)]
 fn conditional<'a>(
     names: &mut Environment<'a>,
@@ -114,8 +114,8 @@ fn conditional<'a>(
     Ok(())
 }
 
-// Writes the turns of a loop. What follows its body, its condition, and the backward jump without its distance are already
-// written.
+// Writes the turns of a loop. The part after the body, the condition, and the backward jump (still without its distance)
+// are already written.
 #[cycle(resolved_statements)]
 fn turns<'a>(
     names: &mut Environment<'a>,

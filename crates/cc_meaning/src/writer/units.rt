@@ -20,7 +20,7 @@ use std::alloc::{AllocError, Global};
 
 const MAIN: &[u8] = b"main";
 
-// Declares a function, and appends its instructions to those of others.
+// Declares a function, and appends its instructions to those of the functions before it.
 fn define_function<'a>(
     alloc: Global,
     names: &mut Environment<'a>,
@@ -47,8 +47,8 @@ fn define_function<'a>(
     code.finish(into)
 }
 
-// Brings the names of an external declaration into file scope, and appends the instructions of the function that it defines to
-// those of others.
+// Brings the names of an external declaration into file scope, and appends the instructions of the function that it defines,
+// if any, to those of the functions before it.
 fn resolve_external<'a>(
     alloc: Global,
     names: &mut Environment<'a>,

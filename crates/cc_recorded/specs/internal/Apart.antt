@@ -1,4 +1,4 @@
--- What is checked about clients, place by place.
+-- What is checked about the clients in a list.
 use Rattle.std.specs.Prelude.{◌≡◌, ℕ, List, Some, slice_get}
 use Rattle.cc_history.specs.History.{MemberView}
 

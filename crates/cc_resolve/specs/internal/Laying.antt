@@ -1,4 +1,4 @@
--- Offsets that the code keeps while it lays out objects.
+-- Offsets that the code computes while it lays out objects.
 use Rattle.std.specs.Prelude.{ℕ, ◌+◌, List, [], ◌∷◌}
 use Rattle.cc_ast.specs.Tree.{Object}
 use Rattle.cc_types.specs.Types.{object_elements}

@@ -1,12 +1,11 @@
--- The generator as a function. Nodes are made from the end of the code to its beginning, so that the label to continue at is
--- known. A node's place in the list is its label until the order is reversed (`labelled_from`); then labels ascend in the
--- code's order.
+-- The generator as a function. Nodes are made from the end of the code to its beginning, so that the label to continue at is known. A
+-- node's place in the list is its label until the order is reversed (`labelled_from`); then labels ascend in the code's order.
 use Rattle.std.specs.Prelude.{ℕ, suc, ◌-◌, ◌<◌, List, [], ◌∷◌, ◌++◌, length, get_or, set, Option, Some, None}
 use Rattle.cc_cminor.specs.Cminor.{Expression, Constant, Local, Unary, Binary, Load, Statement, Skip, Set, Store, Call, Read, Write, Sequence, If, Loop, Block, Exit, Return}
 use Rattle.cc_rtl_language.specs.Rtl as rtl
 use Rattle.cc_rtl.specs.Size.{variable_of}
 
--- a label that is reserved for a loop's head has no node yet
+-- the nodes by their places; a place reserved for a loop's head has no node yet
 abbrev pub Places : Type 0
 Places = List (Option rtl.Node)
 
@@ -80,7 +79,7 @@ made count (Block a) exit exits g = made count a exit (exit ∷ exits) g
 made count (Exit k) exit exits g = record { entry = get_or exits k exit; places = g }
 made count (Return e) exit exits g = operand e count (pushed (rtl.Return (register e count)) g)
 
--- the whole function: return, 0 before it, the body, and the entry
+-- the whole function, made from its end: the return, the constant 0 before it, the body, and the entry
 abbrev pub made_function : (count : ℕ) → Statement → Made
 made_function count body =
     let b = made count body 1 [] (Some (rtl.Return count) ∷ Some (rtl.Const count 0 0) ∷ []) in
@@ -140,7 +139,7 @@ nodes_back [] = []
 nodes_back (None ∷ g) = nodes_back g
 nodes_back (Some n ∷ g) = nodes_back g ++ n ∷ []
 
--- the whole function
+-- the RTL of the whole function
 abbrev pub generated_rtl : (parameters count : ℕ) → Statement → rtl.Rtl
 generated_rtl parameters count body =
     let m = made_function count body in

@@ -7,12 +7,12 @@ use Rattle.cc_rtl_language.specs.Code.{node_of}
 use Rattle.cc_rtl_language.specs.declared.node.Node as declared
 use Rattle.cc_rtl.specs.internal.Generate.{Places, Made, register, taken, made_function, nodes_back, labelled_from}
 
--- the places; the last one comes first in the list that has them
+-- the places of a list's entries, the last place first in that list
 abbrev pub places_of : List (Entry (Option declared.Node)) → Places
 places_of [] = []
 places_of (e ∷ es) = places_of es ++ option_map node_of e.item ∷ []
 
--- their labels are the places
+-- the labels of the entries are their places
 abbrev pub AreCountedDown : List (Entry (Option declared.Node)) → Type 0
 AreCountedDown [] = Unit {0}
 AreCountedDown (e ∷ es) = (e.label ≡ length es) × AreCountedDown es

@@ -32,14 +32,14 @@ module _ (nodes : Graph) (count : ℕ) where
   abbrev pub Operand : Expression → (free register free' entry exit : ℕ) → Type 0
   Operand e = Held e (Into e)
 
-  -- operands in registers, in their order
+  -- the operands are put into these registers, in order
   abbrev pub Operands : List Expression → List ℕ → (free entry exit : ℕ) → Type 0
   Operands [] [] free entry exit = entry ≡ exit
   Operands [] (r ∷ rs) free entry exit = ⊥
   Operands (e ∷ es) [] free entry exit = ⊥
   Operands (e ∷ es) (r ∷ rs) free entry exit = (free' : ℕ) × (m : ℕ) × Operand e free r free' entry m × Operands es rs free' m exit
 
-  -- the register that the next word of the input goes into: a variable's, or one above the variables if it is dropped
+  -- the register that the next word of the input goes into: a variable's, or one above the variables if the word is dropped
   abbrev pub Takes : Option ℕ → (register : ℕ) → Type 0
   Takes None register = count ≤ register
   Takes (Some x) register = register ≡ x

@@ -1,6 +1,6 @@
 // The nodes that put the value of an expression into a register, made from last to first.
 //
-// A variable is read from its own register, so an operand that is a variable takes no node. The recursion is as deep as the tree,
+// A variable is read from its own register, so an operand that is a variable needs no node. The recursion is as deep as the tree,
 // with two calls for each of its levels.
 
 ghost use Rattle.std.specs.Prelude.{◌≡◌, ◌+◌, ◌<◌, ◌≤◌, ◌^◌, ◌++◌, length, IfOk, OnOk};
@@ -147,7 +147,7 @@ pub fn operands(
     }
 }
 
-/// Adds the registers that hold arguments.
+/// Adds the register that holds each argument.
 pub fn hold(held: &mut SmallVec<u32, 8>, es: &[Expression], free: u32) -> Result<(), AllocError>
     requires registers { free + 1 + operands_nodes (expressions_of es.now) < 2 ^ 32 }
     requires numbers { ExpressionsBelow most_variables (expressions_of es.now) }

@@ -98,7 +98,7 @@ impl Graph {
     }
 }
 
-// Counts the labels of the node's successors from the last place.
+// Renumbers the node's successors, whose labels then count from the last place.
 fn turn(node: &mut Node, last: u32)
     ensures { node_of node.new ≡ renamed (λ l. last - l) (node_of node.old) }
 {

@@ -4,7 +4,7 @@ use Rattle.std.specs.Borrow.{Bor}
 use Rattle.cc_script.specs.Line.{words}
 use Rattle.cc_runs.specs.Words.{all_of, word_in}
 
--- the words of a line with this first word and, if a space ends it, this rest after the space
+-- the words of a line that begins with this word and, if a space ends the word, goes on with this rest
 abbrev pub words_behind : (word : List ℕ) → Option (Bor (List ℕ)) → List (List ℕ)
 words_behind word None = word ∷ []
 words_behind word (Some rest) = word ∷ words rest.now

@@ -1,4 +1,4 @@
--- The ranks of functions by a table.
+-- The ranks that a table gives to functions.
 use Rattle.std.specs.Prelude.{ℕ, ◌<◌, List, [], ◌∷◌, get_or}
 use Rattle.cc_ast.specs.Erase.{statements_of}
 use Rattle.cc_ast.specs.declared.ast.External.{External}

@@ -1,4 +1,4 @@
--- How a terminal is shown the bytes that are printed: with a question mark for each control byte.
+-- How printed bytes are shown on a terminal: with a question mark for each control byte.
 use Rattle.std.specs.Prelude.{ℕ, Bool, ◌&&◌, ◌||◌, ◌==◌, not, nat_le, nat_lt, if◌then◌else◌, List, [], ◌∷◌}
 
 -- a control byte is 0 to 31 except tab and newline, 127, or 128 to 159 unless the byte before makes it part of another character
@@ -15,7 +15,7 @@ abbrev pub shown : (before : ℕ) → List ℕ → List ℕ
 shown before [] = []
 shown before (byte ∷ bytes) = shown_byte before byte ∷ shown byte bytes
 
--- the last of these bytes, or the one before them
+-- the last of these bytes, or `before` if the list is empty
 abbrev pub last_of : (before : ℕ) → List ℕ → ℕ
 last_of before [] = before
 last_of before (byte ∷ bytes) = last_of byte bytes

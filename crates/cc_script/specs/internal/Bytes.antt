@@ -3,8 +3,8 @@ use Rattle.std.specs.Prelude.{ℕ, ◌≡◌, ◌+◌, [], ◌∷◌, Option, So
 use Rattle.std.specs.Io.KnownBytes.{Consumes, IsAtEnd, Keeps}
 use Rattle.cc_script.specs.Reading.{Ahead}
 
--- what is left begins with this byte, which is then taken off, and the count falls by one; there is no byte only at the end, and
--- then nothing changes
+-- what is left begins with this byte, which is then removed, and the count falls by one; or the end is reached, there is no
+-- byte, and nothing changes
 abbrev pub IsNextByte : (before : Ahead) → Option ℕ → (after : Ahead) → Type 0
 IsNextByte before None after = Keeps before.rest after.rest × IsAtEnd after.rest × (after.left ≡ before.left)
 IsNextByte before (Some byte) after = Consumes before.rest after.rest (byte ∷ []) × (after.left + 1 ≡ before.left)

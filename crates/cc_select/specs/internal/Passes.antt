@@ -14,7 +14,7 @@ use Rattle.cc_select.specs.Selection.{Test, behind}
 use Rattle.cc_select.specs.declared.fuse.Test as code
 use Rattle.cc_select.specs.internal.Sets.{within}
 
--- the label, if the step is one
+-- the label, if the step is a label
 abbrev pub label_of : Step → Option ℕ
 label_of (One (Label label)) = Some label
 label_of step = None
@@ -24,23 +24,23 @@ abbrev pub is_met : Table → Step → Registers → Bool
 is_met t (One (Label label)) s = within s (t label)
 is_met t step s = true
 
--- a constant stays if something reads it; so does an operator with a word, and also if its own register is not live after it
+-- a constant stays if it is read; an operator with a word also stays if the register that it reads is not live after it
 abbrev pub stays : Step → (behind : Registers) → Bool
 stays (One (Const to word)) s = s to
 stays (Immediate operator to from word) s = s to || not (s from)
 stays step s = true
 
--- the test, if the step is one
+-- the test, if the step is a test
 abbrev pub test_in : Step → Option Test
 test_in (One (IfNonzero r n)) = Some (record { register = r; nonzero = true; to = n })
 test_in (One (IfZero r n)) = Some (record { register = r; nonzero = false; to = n })
 test_in step = None
 
--- a test as the code has it
+-- a test as the code represents it
 abbrev pub shown : code.Test → Test
 shown t = record { register = t.register; nonzero = t.nonzero; to = t.to }
 
--- the branch for a step that asks whether a register is 0 and a test of that answer
+-- the branch that replaces a step that tests whether a register is 0, together with the test of that step's result
 abbrev pub branch_on_zero : (from : ℕ) → Test → Step
 branch_on_zero a v = One (if v.nonzero then IfZero a v.to else IfNonzero a v.to)
 
@@ -53,14 +53,14 @@ abbrev pub branch_compared : Option binary.Binary → (left right : ℕ) → Tes
 branch_compared None a b v = None
 branch_compared (Some o) a b v = Some (Branch o v.nonzero a b v.to)
 
--- the one branch for a step and a test of the register that it writes
+-- the one branch that replaces a step and a test of the register that the step writes
 abbrev pub branch_on : Step → Test → Option Step
 branch_on (One (Unary IsZero to a)) v = if to == v.register then Some (branch_on_zero a v) else None
 branch_on (One (Binary o to a b)) v = if to == v.register then branch_compared (compared o) a b v else None
 branch_on (Immediate o to a w) v = if (to == v.register) && gains o w then Some (BranchImmediate o v.nonzero a w v.to) else None
 branch_on step v = None
 
--- whether nothing reads a test's register after the test; `steps` begin with it
+-- whether nothing reads a test's register after the test; `steps` begin with the test
 abbrev pub is_last : Table → Test → (steps : List Step) → Bool
 is_last t v steps = not (live t (behind steps) v.register) && not (t v.to v.register)
 
@@ -69,7 +69,7 @@ abbrev pub branch_of : Table → Step → Option Test → (steps : List Step) �
 branch_of t step None steps = None
 branch_of t step (Some v) steps = if is_last t v steps then branch_on step v else None
 
--- the one branch for the step that a list begins with, and the steps after it
+-- the one branch that replaces the first step of a list and the step after it
 abbrev pub first_branch : Table → List Step → Option Step
 first_branch t [] = None
 first_branch t (step ∷ []) = None

@@ -1,6 +1,6 @@
--- Worked examples of selection, by computation: which words operators have, constants that go into operations and accesses, constants that
--- stay, powers of two, what is forgotten, branches on constants, comparisons that are joined with their tests and others that are not, a
--- table, and what some steps do.
+-- Worked examples of selection, by computation: which words operators can encode, constants that go into operations and accesses, constants
+-- that stay, powers of two, what is forgotten, branches on constants, comparisons that are joined with their tests and others that are not,
+-- a table, and what some steps do.
 use Rattle.std.specs.Prelude.{◌-◌, ◌^◌, ◌≡◌, refl, true, false, Some, None, List, [], ◌∷◌}
 use Rattle.std.specs.Int.Count.{count_trailing_zeros}
 use Rattle.cc_words.specs.declared.operators.Width.TheVariants.{Byte, Word}
@@ -37,7 +37,7 @@ least = refl
 too_small : has_word immediate.Add (2 ^ 32 - 2049) ≡ false
 too_small = refl
 
--- a word is subtracted by adding its negative; so is a word that is compared for equality
+-- a word is subtracted by adding its negative, also in a comparison for equality
 subtracted : has_word immediate.Sub 2048 ≡ true
 subtracted = refl
 
@@ -54,7 +54,7 @@ too_great_for_at_most = refl
 all_are_at_most : has_word immediate.LeU (2 ^ 32 - 1) ≡ false
 all_are_at_most = refl
 
--- "more than" only with 0
+-- "more than" can encode only 0
 more_than_one : has_word immediate.GtU 1 ≡ false
 more_than_one = refl
 
@@ -76,7 +76,7 @@ index_of_store : selected (Const 7 2 ∷ Const 11 5 ∷ Store Byte 0 7 11 ∷ Re
 unfolding table
 index_of_store = refl
 
--- ---- nearby elements: the number is made from a register and a word, and nothing else reads it
+-- ---- nearby elements: the number is computed from a register and a word, and nothing else reads it
 
 next_element : selected (Const 7 1 ∷ Binary operators.Add 7 10 7 ∷ Load Word 0 10 7 ∷ Return ∷ []) ≡ LoadNear Word 0 10 10 1 ∷ One Return ∷ []
 unfolding table count_trailing_zeros
@@ -91,7 +91,7 @@ read_once_more : selected (Const 7 1 ∷ Binary operators.Add 7 10 7 ∷ Load Wo
 unfolding table count_trailing_zeros
 read_once_more = refl
 
--- if the register from which the sum was made is written since, or is the sum's own register, the number is the word of the sum's register
+-- if the register to which a word was added has been written since, or is the sum's own, the number is the word of the sum's register
 written_since : selected (Const 7 1 ∷ Binary operators.Add 7 10 7 ∷ Copy (Between 10 11) ∷ Load Word 0 10 7 ∷ Return ∷ []) ≡ Immediate immediate.Add 7 10 1 ∷ One (Copy (Between 10 11)) ∷ One (Load Word 0 10 7) ∷ One Return ∷ []
 unfolding table count_trailing_zeros
 written_since = refl
@@ -100,12 +100,12 @@ sum_in_itself : selected (Const 7 1 ∷ Binary operators.Add 10 10 7 ∷ Load Wo
 unfolding table count_trailing_zeros
 sum_in_itself = refl
 
--- on the right
+-- a constant on the right goes into the operation
 on_the_right : selected (Const 7 5 ∷ Binary operators.Sub 10 11 7 ∷ Return ∷ []) ≡ Immediate immediate.Sub 10 11 5 ∷ One Return ∷ []
 unfolding table
 on_the_right = refl
 
--- on the left: if the order makes no difference; if "the word is less than the register's" becomes "more than"; and not in a difference
+-- a constant on the left goes in if the order makes no difference, or if "less than" becomes "more than"; it does not in a difference
 on_the_left : selected (Const 7 5 ∷ Binary operators.And 10 7 11 ∷ Return ∷ []) ≡ Immediate immediate.And 10 11 5 ∷ One Return ∷ []
 unfolding table
 on_the_left = refl
@@ -131,7 +131,7 @@ on_both_sides : selected (Const 7 1 ∷ Const 8 2 ∷ Binary operators.Add 10 7 
 unfolding table
 on_both_sides = refl
 
--- a signed quotient cannot have a word, so its constant is live, and stays
+-- a signed quotient cannot encode a word, so its constant is live, and stays
 live_constant : selected (Const 7 5 ∷ Binary operators.Add 10 11 7 ∷ Binary operators.DivS 10 10 7 ∷ Return ∷ [])
     ≡ One (Const 7 5) ∷ Immediate immediate.Add 10 11 5 ∷ One (Binary operators.DivS 10 10 7) ∷ One Return ∷ []
 unfolding table
@@ -224,12 +224,12 @@ long_mask = refl
 
 -- ---- what is forgotten
 
--- at a label, since runs come there from elsewhere
+-- words are forgotten at a label, since runs reach it from elsewhere
 at_a_label : selected (Const 7 3 ∷ Label 1 ∷ Load Word 0 10 7 ∷ Return ∷ []) ≡ One (Const 7 3) ∷ One (Label 1) ∷ One (Load Word 0 10 7) ∷ One Return ∷ []
 unfolding table
 at_a_label = refl
 
--- at a call, which destroys x7, so that the constant is not read at all; x18 survives
+-- a word in x7 is forgotten at a call, which destroys x7, so the constant is not read at all; x18 survives
 at_a_call : selected (Const 7 3 ∷ Call 0 ∷ Load Word 0 10 7 ∷ Return ∷ []) ≡ One (Call 0) ∷ One (Load Word 0 10 7) ∷ One Return ∷ []
 unfolding table
 at_a_call = refl
@@ -238,7 +238,7 @@ past_a_call : selected (Const 18 3 ∷ Call 0 ∷ Load Word 0 10 18 ∷ Return �
 unfolding table
 past_a_call = refl
 
--- when its register is written again
+-- a word is forgotten when its register is written again
 written_anew : selected (Const 7 3 ∷ Copy (Between 7 11) ∷ Load Word 0 10 7 ∷ Return ∷ []) ≡ One (Copy (Between 7 11)) ∷ One (Load Word 0 10 7) ∷ One Return ∷ []
 unfolding table
 written_anew = refl
@@ -250,14 +250,14 @@ argument = refl
 
 -- ---- branches on constants
 
--- the code at the end: after the test it returns 0, at its label 1
+-- the code at the end: it returns 0 after the test, and 1 at the test's label
 abbrev ends : List LinearItem
 ends = Const 10 0 ∷ Return ∷ Label 1 ∷ Const 10 1 ∷ Return ∷ []
 
 abbrev ends_selected : List Step
 ends_selected = One (Const 10 0) ∷ One Return ∷ One (Label 1) ∷ One (Const 10 1) ∷ One Return ∷ []
 
--- a branch on a constant that is certain to be taken is a jump, and nothing reads the constant
+-- a branch on a constant becomes a jump if it is certain to be taken, and nothing reads the constant
 taken_at_1 : selected (Const 7 1 ∷ IfNonzero 7 1 ∷ ends) ≡ One (Jump 1) ∷ ends_selected
 unfolding table
 taken_at_1 = refl
@@ -280,7 +280,7 @@ branch_on_another : selected (Const 7 1 ∷ IfNonzero 8 1 ∷ ends) ≡ One (IfN
 unfolding table
 branch_on_another = refl
 
--- after a branch that is taken, the items' words stay known, though no run comes there
+-- after a branch that is certain to be taken, words stay known, though no run gets there
 behind_a_taken_one : selected (Const 7 3 ∷ IfNonzero 7 1 ∷ Load Word 0 10 7 ∷ Return ∷ Label 1 ∷ Return ∷ []) ≡ One (Jump 1) ∷ LoadAt Word 0 10 3 ∷ One Return ∷ One (Label 1) ∷ One Return ∷ []
 unfolding table
 behind_a_taken_one = refl
@@ -291,7 +291,7 @@ joined_comparison : selected (Binary operators.LtS 7 10 11 ∷ IfNonzero 7 1 ∷
 unfolding table
 joined_comparison = refl
 
--- == and != of C come as xor
+-- C's == and != arrive as xor
 joined_xor : selected (Binary operators.Xor 7 10 11 ∷ IfZero 7 1 ∷ ends) ≡ Branch operators.Ne false 10 11 1 ∷ ends_selected
 unfolding table
 joined_xor = refl
@@ -300,7 +300,7 @@ joined_zero : selected (Unary IsZero 7 10 ∷ IfNonzero 7 1 ∷ ends) ≡ One (I
 unfolding table
 joined_zero = refl
 
--- with a word, if the branch gains by it
+-- a comparison with a word is joined with its test if the branch gains by it
 joined_word : selected (Const 8 0 ∷ Binary operators.LtS 7 10 8 ∷ IfNonzero 7 1 ∷ ends) ≡ BranchImmediate immediate.LtS true 10 0 1 ∷ ends_selected
 unfolding table
 joined_word = refl
@@ -313,7 +313,7 @@ word_without_gain : selected (Const 8 100 ∷ Binary operators.LtS 7 10 8 ∷ If
 unfolding table
 word_without_gain = refl
 
--- the value is read at the label or after the test, or the test is of another register: two steps
+-- the value is read at the label or after the test, or the test is of another register: there are still two steps
 read_at_the_label : selected (Binary operators.LtS 7 10 11 ∷ IfNonzero 7 1 ∷ Return ∷ Label 1 ∷ Copy (Between 10 7) ∷ Return ∷ [])
     ≡ One (Binary operators.LtS 7 10 11) ∷ One (IfNonzero 7 1) ∷ One Return ∷ One (Label 1) ∷ One (Copy (Between 10 7)) ∷ One Return ∷ []
 unfolding table

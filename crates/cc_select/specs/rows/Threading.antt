@@ -1,5 +1,5 @@
--- Worked examples of threading, by computation: a truth value that is tested where it is made, tests that become jumps, and tests that stay
--- where they are.
+-- Worked examples of threading, by computation: a truth value that is tested where it is computed, tests that become jumps, and tests that
+-- stay where they are.
 use Rattle.std.specs.Prelude.{◌≡◌, refl, true, Some, None, List, [], ◌∷◌}
 use Rattle.cc_words.specs.declared.operators.Binary.TheVariants as operators
 use Rattle.cc_ltl.specs.declared.operation.Move.TheVariants.{Between}
@@ -10,7 +10,7 @@ use Rattle.cc_select.specs.Threading.{tests, threaded}
 use Rattle.cc_select.specs.Table.{table}
 use Rattle.cc_select.specs.Selection.{selected}
 
--- where two ways meet, x7 is tested: the run goes on at label 3 if it is not 0
+-- where two paths meet, x7 is tested: the run goes on at label 3 if it is not 0
 abbrev meeting : List LinearItem
 meeting = Label 2 ∷ IfNonzero 7 3 ∷ Return ∷ Label 3 ∷ Write ∷ Return ∷ []
 
@@ -33,7 +33,7 @@ conjunction_threaded : threaded conjunction
     ≡ IfZero 10 1 ∷ Binary operators.LtS 7 11 12 ∷ IfNonzero 7 3 ∷ Jump 2 ∷ Label 1 ∷ Const 7 0 ∷ Jump 2 ∷ Label 2 ∷ Return ∷ Label 3 ∷ Write ∷ Return ∷ []
 conjunction_threaded = refl
 
--- then nothing reads x7: the comparison becomes a branch, and the constant is left out
+-- after threading nothing reads x7: the comparison becomes a branch, and the constant is left out
 conjunction_selected : selected conjunction
     ≡ One (IfZero 10 1) ∷ Branch operators.LtS true 11 12 3 ∷ One (Jump 2) ∷ One (Label 1) ∷ One (Jump 2) ∷ One (Label 2) ∷ One Return ∷ One (Label 3) ∷ One Write ∷ One Return ∷ []
 unfolding table
@@ -56,16 +56,16 @@ zero_there = refl
 zero_on : threaded (Const 7 5 ∷ Jump 2 ∷ Label 2 ∷ IfZero 7 3 ∷ Return ∷ Label 3 ∷ Return ∷ []) ≡ Const 7 5 ∷ Jump 2 ∷ IfZero 7 3 ∷ Label 2 ∷ Return ∷ Label 3 ∷ Return ∷ []
 zero_on = refl
 
--- the word of another register says nothing
+-- the word of another register says nothing about the tested one
 another_register : threaded (Const 8 0 ∷ Jump 2 ∷ meeting) ≡ Const 8 0 ∷ IfNonzero 7 3 ∷ Jump 2 ∷ IfNonzero 7 3 ∷ Label 2 ∷ Return ∷ Label 3 ∷ Write ∷ Return ∷ []
 another_register = refl
 
 -- ---- what stays
 
--- a branch leads to the label
+-- a test stays if a branch leads to its label
 branched : threaded (IfZero 10 2 ∷ Const 7 0 ∷ Jump 2 ∷ meeting) ≡ IfZero 10 2 ∷ Const 7 0 ∷ Jump 2 ∷ meeting
 branched = refl
 
--- another item is before the test
+-- a test stays if another item is between it and the label
 not_directly_behind : threaded (Jump 2 ∷ Label 2 ∷ Copy (Between 7 10) ∷ IfNonzero 7 3 ∷ Label 3 ∷ Return ∷ []) ≡ Jump 2 ∷ Label 2 ∷ Copy (Between 7 10) ∷ IfNonzero 7 3 ∷ Label 3 ∷ Return ∷ []
 not_directly_behind = refl

@@ -21,7 +21,7 @@ use Rattle.cc_history.specs.declared.reply.Reply.{Reply}
 use Rattle.cc_service.specs.declared.asking.Compared.{Compared}
 use Rattle.cc_service.specs.declared.asking.Compared.TheVariants as compared
 
--- the answer to this change
+-- what the client sees of the answer to this change
 abbrev pub MakesAnswers : Command → (old new : MemberView) → Result Receipt ServiceFault → Type 0
 MakesAnswers command old new (Ok receipt) = IsEntered (λ c. c ≡ command) old reply.Done new receipt
 MakesAnswers command old new (Err (Book f)) = IsTurnedDown (λ c. c ≡ command) old new f
@@ -49,12 +49,12 @@ HasCompared answer expected compared.NoUnit = (unit : StoredUnit) → answer ≡
 HasCompared answer expected compared.Other = (unit : StoredUnit) × (answer ≡ reply.Unit unit) × (unit.source ≢ expected)
 HasCompared answer expected compared.Same = (unit : StoredUnit) × (answer ≡ reply.Unit unit) × (unit.source ≡ expected)
 
--- what the book answers, as an answer of the service
+-- the book's answer, as an answer of the service
 abbrev pub answer_of : Result Receipt BookFault → Result Receipt ServiceFault
 answer_of (Ok receipt) = Ok receipt
 answer_of (Err fault) = Err (Book fault)
 
--- what comes after the look-up: a refusal with 32 or 60, or the change
+-- what follows the look-up: a refusal with 32 or 60, or the change
 module _ {Disk : Type 0} (D : Ghosts Disk) where
   abbrev pub UpdatesSeen : (between : BookView Disk) (heard : MemberView) (expected : List ℕ) → Command → (seen : Receipt) (after : BookView Disk) (new : MemberView) → Result Receipt ServiceFault → Type 0
   UpdatesSeen between heard expected command seen after new result =
@@ -63,7 +63,7 @@ module _ {Disk : Type 0} (D : Ghosts Disk) where
       ⊎ (HasCompared seen.entry.reply expected compared.Same
       × (answer : Result Receipt BookFault) × (result ≡ answer_of answer) × (IsBookChanged D between heard command after new answer ⊎ IsCompactedFor D between heard command after new answer)))
 
--- the answer to an update that makes this change
+-- what the client sees of the answer to an update that makes this change
 abbrev pub UpdatesBy : Command → (name expected : List ℕ) (old new : MemberView) → Result Receipt ServiceFault → Type 0
 UpdatesBy command name expected old new (Ok receipt) = IsUpdated (λ c. c ≡ command) name expected old new receipt
 UpdatesBy command name expected old new (Err (Book f)) = IsNotUpdated name expected old new f

@@ -1,4 +1,4 @@
--- How a script from a spool ended, and how a service ends that was given up.
+-- How a script from a spool ended, and how a service that was given up ends.
 use Rattle.std.specs.Prelude.{◌≡◌, ℕ, Bool, true, false, Option, Some, None, Result, Ok, Err}
 use Rattle.cc_script.specs.Fault.{fault_number}
 use Rattle.cc_script.specs.declared.fault.ScriptFault.{ScriptFault}
@@ -10,7 +10,7 @@ abbrev pub EndOf : {T : Type 0} → Result T ScriptFault → Option ℕ → Type
 EndOf (Ok done) end = end ≡ None
 EndOf (Err fault) end = end ≡ Some (fault_number fault)
 
--- 39 if the receipts are not all there; else the fault that ended the clients' work, or 40 if none did
+-- 39 if not all receipts are in the history; else the fault that ended the clients' work, or 40 if none did
 abbrev pub given_up_after : (are_all : Bool) (played : SessionEnd) → SessionEnd
 given_up_after true Finished = Fault 40
 given_up_after true (Fault first) = Fault first

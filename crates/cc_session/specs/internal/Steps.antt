@@ -39,11 +39,11 @@ abbrev pub IsLimit : (most : Option ℕ) (first : MemberView) (lines : ℕ) (now
 IsLimit most first lines now None = MayGoOn most first lines now
 IsLimit most first lines now (Some fault) = EndsBehind most first lines now fault
 
--- No line comes: either it can't be read; or more of the script is left, and the limit ends it.
+-- No line comes: either it can't be read; or more of the script is left, and the limit ends the script.
 abbrev pub IsNoLine : (limit : Option ScriptFault) (before : Ahead) (left : ℕ) → ScriptFault → Type 0
 IsNoLine limit before left fault = IsNotRead before left fault ⊎ ((limit ≡ Some fault) × IfSome before.rest (λ bytes. bytes ≢ []))
 
--- a line that comes may be done
+-- if a line comes, there is no limit, so it may be done
 abbrev pub MayFollow : (limit : Option ScriptFault) → NextLine → Type 0
 MayFollow limit (Line length) = limit ≡ None
 MayFollow limit TooLong = limit ≡ None
@@ -56,7 +56,7 @@ pub record CountsSince (first now : List Receipt) (held : Held) : Type 0 where
   pub seen : held.seen ≡ length now
   pub bytes : held.bytes ≡ at_most_told (receipts_bytes more)
 
--- `count` bytes are taken from what is left, and the end of the line after them; or one byte more, which is no line's end
+-- `count` bytes are taken from what is left, and then the end of a line, or one byte that does not end a line
 abbrev pub HasSent : (before : List ℕ) (count : ℕ) → Sent → (after : List ℕ) → Type 0
 HasSent before count (Source bytes) after =
     (source : List ℕ) × (rest : List ℕ) × (before ≡ source ++ rest) × (length source ≡ count) × IsLine rest [] after × (bytes.items ≡ take 65537 source)
@@ -73,9 +73,9 @@ IsSentAs source false sent = sent ≡ Unended
 abbrev pub IsShortOf : (count : ℕ) (rest : List ℕ) → Type 0
 IsShortOf count rest = length rest < count
 
--- Why a step was not done to its end. It is 51 if the bytes that its line needs are not there, 52 if more are left than the
--- script may have, or 53: then nothing of the step was done, except that 50 may be written for a line that was not read to its
--- end. At 54, nothing was done, or the step was done but its answer could not be written.
+-- Why a step was not done to its end. It is 51 if the bytes that the line needs are not there, 52 if more bytes are left than
+-- the script may have, or 53: then nothing of the step was done, except that 50 may be written for a line that was not read to
+-- its end. At 54, nothing was done, or the step was done but its answer could not be written.
 abbrev pub IsNotDone : (Does : List ℕ → List ℕ → Talk → Talk → Type 0) (IsShort IsBad : List ℕ → Type 0) (before : Ahead) (old new : Talk) → ScriptFault → Type 0
 IsNotDone Does IsShort IsBad before old new BadLine = ⊥
 IsNotDone Does IsShort IsBad before old new EndOfScript = (new ≡ old) × IfSome before.rest IsShort
@@ -90,7 +90,7 @@ abbrev pub IsDone : {T : Type 0} → (Does : List ℕ → List ℕ → Talk → 
 IsDone Does IsShort IsBad before after old new (Ok done) = Between before after (λ b a. Does b a old new)
 IsDone Does IsShort IsBad before after old new (Err fault) = IsNotDone Does IsShort IsBad before old new fault
 
--- a line that asks for this was not obeyed; or it is a `run` that was cut off, 61
+-- a line that asks for this was not obeyed; or the line is a `run` that was cut off, 61
 abbrev pub IsObeyedNot : Mode → (most : Option ℕ) (asked : Option ScriptRequest) (before : Ahead) (old new : Talk) → ScriptFault → Type 0
 IsObeyedNot mode most asked before old new Stopped = IsBounded most × CutsLine asked old new
 IsObeyedNot mode most asked before old new fault = IsNotDone (λ b a o n. Obeys mode asked b a o n) (λ rest. IsCutShort asked rest) (λ rest. HasUnended asked rest) before old new fault
@@ -100,13 +100,12 @@ abbrev pub IsObeyed : Mode → {T : Type 0} → (most : Option ℕ) (asked : Opt
 IsObeyed mode most asked before after old new (Ok done) = Between before after (λ b a. Obeys mode asked b a old new)
 IsObeyed mode most asked before after old new (Err fault) = IsObeyedNot mode most asked before old new fault
 
--- a script was done whole; or a fault ended it, whose line is not written yet, and the script is done up to the point that the
--- fault says
+-- the whole script was done; or a fault ended it, whose line is not written yet, and the script is done up to the point that the fault says
 abbrev pub IsHalted : Mode → {T : Type 0} → Dialect → (most : Option ℕ) (script : Option (List ℕ)) (old new : Talk) → Result T ScriptFault → Type 0
 IsHalted mode dialect most script old new (Ok done) = IfSome script (λ bytes. IsPlayed mode dialect most bytes old new)
 IsHalted mode dialect most script old new (Err fault) = IsEnding most fault × IfSome script (λ bytes. IsStoppedBy mode dialect most fault bytes old new)
 
--- how a session ends if its script was answered with this result
+-- how a session ends if its script ended with this result
 abbrev pub EndsFor : {T : Type 0} → Result T ScriptFault → SessionEnd → Type 0
 EndsFor (Ok done) end = end ≡ Finished
 EndsFor (Err fault) end = end ≡ Fault (fault_number fault)

@@ -1,4 +1,4 @@
--- Each bound serves for itself.
+-- For each bound, the bound to reach is the same one.
 use Rattle.cc_simulation.proofs.Behaving.{follows_refl}
 use Rattle.cc_simulation.proofs.follows_itself.Goals as goal
 

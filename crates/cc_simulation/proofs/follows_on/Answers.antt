@@ -1,4 +1,4 @@
--- One bound is found after another.
+-- The bound for the second run gives the bound for the third.
 use Rattle.cc_simulation.proofs.Behaving.{follows_trans, follows_on_for_all}
 use Rattle.cc_simulation.proofs.follows_on.Goals as goal
 

@@ -19,7 +19,7 @@ module _ {C D : Type 0} (old : C → Move C) (old_output : C → List ℕ) (new 
     pub way : Way new new_output moves d to
     pub related : Related c to
 
-  -- at most `wide` moves of the new language, then the same call, and after every answer both continue related
+  -- at most `wide` moves of the new language lead to the same call, and after every answer the two runs are related
   pub record Asks (Related : C → D → Type 0) (wide : ℕ) (q : Question) (resume : Answer → C) (d : D) : Type 0 where
     pub moves : ℕ
     pub to : D
@@ -29,7 +29,7 @@ module _ {C D : Type 0} (old : C → Move C) (old_output : C → List ℕ) (new 
     pub calls : new to ≡ Calls q resume'
     pub related : (a : Answer) → Related (resume a) (resume' a)
 
-  -- at most `wide` moves of the new language, then the same return, with the same output
+  -- at most `wide` moves of the new language lead to the same return, with the same output
   pub record Ending (wide : ℕ) (r : Answer) (o : List ℕ) (d : D) : Type 0 where
     pub moves : ℕ
     pub to : D
@@ -40,7 +40,7 @@ module _ {C D : Type 0} (old : C → Move C) (old_output : C → List ℕ) (new 
 
   -- Each move of the old language is matched by one or more moves of the new one, but at most `suc wide`; or by none, while a
   -- measure of at most `deep` decreases. An end is matched by an end after at most `wide` moves. So the new run ends if the old
-  -- one does, and a loop that does nothing remains a loop. If the old run fails nothing is required.
+  -- one does, and a loop that does nothing remains a loop. If the old run fails, nothing is required.
   pub record Simulation (Related : C → D → Type 0) (measure : C → ℕ) (deep wide : ℕ) : Type 0 where
     pub low : (c : C) (d : D) → Related c d → measure c ≤ deep
     pub outputs : (c : C) (d : D) → Related c d → new_output d ≡ old_output c
@@ -56,7 +56,7 @@ Alike Same (Returns r) (Returns s) = r ≡ s
 Alike Same Fails Fails = Unit {0}
 Alike Same m n = ⊥
 
--- in lockstep: each move of the one is a move of the other
+-- in lockstep: each move of one language is a move of the other
 pub record Lockstep {C D : Type 0} (old : C → Move C) (old_output : C → List ℕ) (new : D → Move D) (new_output : D → List ℕ) (Same : C → D → Type 0) : Type 0 where
   pub outputs : (c : C) (d : D) → Same c d → new_output d ≡ old_output c
   pub alike : (c : C) (d : D) → Same c d → Alike Same (old c) (new d)

@@ -1,4 +1,4 @@
--- The table of what functions take, as the code makes it.
+-- The table of what functions need, as the code makes it.
 use Rattle.std.specs.Prelude.{ℕ, ◌+◌, ◌≤◌, List, [], ◌∷◌, get_or}
 use Rattle.cc_emit.specs.declared.item.PieceItem.{PieceItem}
 use Rattle.cc_link.specs.Stack.{most_called}

@@ -11,7 +11,7 @@ item_calls is (Plain i) = false
 item_calls is (Call g) = is g
 item_calls is (Go k) = false
 
--- one of the items calls such a function
+-- one of the items calls one of the functions that `is` names
 abbrev pub items_call : (is : ℕ → Bool) → List PieceItem → Bool
 items_call is [] = false
 items_call is (item ∷ items) = item_calls is item || items_call is items
@@ -27,13 +27,13 @@ nearer is [] bodies = []
 nearer is (b ∷ bs) [] = []
 nearer is (b ∷ bs) (items ∷ rest) = (b || items_call is items) ∷ nearer is bs rest
 
--- `found` has only calls that are part of cycles, and has all of these among the calls of functions before `caller` and the
--- calls of `caller` to functions before `called`
+-- `found` has only calls that are part of cycles, and has all such calls by functions before `caller` and the calls of
+-- `caller` to functions before `called`
 pub record FoundUpTo (bodies : List (List PieceItem)) (caller called : ℕ) (found : List Recursion) : Type 0 where
   pub each : (it : Recursion) → Contains found it → IsCyclic bodies it
   pub all : (it : Recursion) (cycle : IsCyclic bodies it) → length cycle.way ≤ length bodies → (it.caller < caller) ⊎ ((it.caller ≡ caller) × (it.called < called)) → Contains found it
 
--- a list of this call, if it is part of a cycle; else the empty list
+-- the list with this call alone, if it is part of a cycle; else the empty list
 abbrev pub added : (is : Bool) → (caller called : ℕ) → List Recursion
 added true f g = record { caller = f; called = g } ∷ []
 added false f g = []

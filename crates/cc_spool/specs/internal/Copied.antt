@@ -6,8 +6,7 @@ use Rattle.cc_spool.specs.declared.lines.Lines.{Lines}
 use Rattle.cc_spool.specs.declared.submission.Side.{Side}
 use Rattle.cc_spool.specs.declared.submission.Side.TheVariants.{Reader, Writer}
 
--- the reader gave these bytes, `count` of them, the writer got exactly these, and they were read; `count` is 0 only at the
--- reader's end
+-- the reader gave these `count` bytes, the writer got exactly these, and their lines were read; `count` is 0 only at the reader's end
 pub record HasPassed (held left old new : Option (List ℕ)) (before after : Lines) (count : ℕ) : Type 0 where
   pub bytes : List ℕ
   pub many : length bytes ≡ count
@@ -21,8 +20,7 @@ PassesOn held left old new before after (Ok count) = HasPassed held left old new
 PassesOn held left old new before after (Err (Reader why)) = new ≡ old
 PassesOn held left old new before after (Err (Writer why)) = Unit {0}
 
--- the reader gave these bytes, all that it had or as many as are asked for; the writer got exactly these, and reading them gives
--- these lines
+-- the reader gave these bytes, all that it had or `most` of them; the writer got exactly these, and reading them gives `lines`
 pub record IsCopied (most : ℕ) (held left old new : Option (List ℕ)) (lines : Lines) : Type 0 where
   pub bytes : List ℕ
   pub given : Consumes held left bytes
@@ -30,7 +28,7 @@ pub record IsCopied (most : ℕ) (held left old new : Option (List ℕ)) (lines 
   pub written : Appends old new bytes
   pub read : lines ≡ read_bytes (between None) bytes
 
--- if the reader failed, the writer got some bytes
+-- the bytes are copied; if the reader failed, the writer got some bytes
 abbrev pub Copies : (most : ℕ) (held left old new : Option (List ℕ)) → Result Lines Side → Type 0
 Copies most held left old new (Ok lines) = IsCopied most held left old new lines
 Copies most held left old new (Err (Reader why)) = (begun : List ℕ) × Appends old new begun

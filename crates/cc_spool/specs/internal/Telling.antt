@@ -5,7 +5,7 @@ use Rattle.cc_spool.specs.declared.lines.Place.{Place}
 use Rattle.cc_spool.specs.declared.lines.Place.TheVariants.{Within, Behind, Broken}
 use Rattle.cc_spool.specs.declared.lines.Lines.{Lines}
 
--- the next byte lies within a source, or after a source that no newline ended
+-- whether the next byte lies within a source, or after a source that no newline ended
 abbrev pub is_within : Place → Bool
 is_within (Within left) = true
 is_within Behind = true

@@ -1,4 +1,4 @@
--- Worked answers, each by computation.
+-- Worked answers, each proved by computation.
 use Rattle.std.specs.Prelude.{◌≡◌, refl, Some, None, codes}
 use Rattle.cc_spool.specs.internal.Telling.{tells}
 

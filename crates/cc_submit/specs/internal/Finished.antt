@@ -47,8 +47,7 @@ pub record FinishesFault (number : ℕ) (ended : Ended) : Type 0 where
   pub came_is : ended.came ≡ Some (Answered (Some number))
   pub status_is : ended.status ≡ 1
 
--- How a command ends if its answer was to be a source. The source is printed whole or not at all, so an answer that was cut short is
--- lost.
+-- How a command ends if its answer was to be a source. The source is printed whole or not at all, so an answer that was cut short is lost.
 abbrev pub FinishesSource : (answer : List ℕ) → Option Submission → (old new : Option (List ℕ)) → Ended → Type 0
 FinishesSource answer (Some (Answered None)) old new ended = FinishesWell answer old new ended
 FinishesSource answer (Some (Answered (Some number))) old new ended = FinishesFault number ended

@@ -6,11 +6,11 @@ use Rattle.std.specs.Fmt.{decimal}
 abbrev pub piece : (bytes : List ℕ) → List ℕ
 piece bytes = bytes ++ codes "\n"
 
--- a line, how many bytes follow it, and these bytes
+-- a line with the number of bytes that follow it, and these bytes
 abbrev pub text_with : (line bytes : List ℕ) → List ℕ
 text_with line bytes = (line ++ (codes " " ++ (decimal (length bytes) ++ codes "\n"))) ++ piece bytes
 
--- a line, the lengths of the expected source and of the new one, the expected source, and the new one
+-- a line with the lengths of the expected source and of the new one, and these two sources
 abbrev pub update_text : (line expected source : List ℕ) → List ℕ
 update_text line expected source =
     (line ++ (codes " " ++ (decimal (length expected) ++ (codes " " ++ (decimal (length source) ++ codes "\n"))))) ++ (piece expected ++ piece source)

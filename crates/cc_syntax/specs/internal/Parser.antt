@@ -1,5 +1,5 @@
--- What the parser's private functions compute, token by token. No public contract cites this file: the contract of `parse` uses
--- Grammar and Limits, and proofs/ shows that the two agree.
+-- What the parser's private functions compute, token by token. No public contract cites this file; proofs/ shows that it agrees
+-- with Grammar and Limits, which the contract of `parse` uses. A gloss that names a token is about the step at that token.
 use Rattle.std.specs.Prelude.{ℕ, suc, Bool, true, false, ◌&&◌, List, [], ◌∷◌, ◌++◌, length, Option, Some, None, is_some, nat_le, if◌then◌else◌}
 use Rattle.cc_tokens.specs.declared.scalar.Scalar.{Scalar}
 use Rattle.cc_tokens.specs.declared.scalar.Scalar.TheVariants as scalar
@@ -80,7 +80,7 @@ pub record Naming : Type 0 where
   pub objects : List Object
   pub name : Name
 
--- what a constant expression is for the named object, and the offset of its first token
+-- what a constant expression is used for in the named object, and the offset of the expression's first token
 pub data Part : Type 0 where
   ToSize : ℕ → Part
   ToSingle : ℕ → Part
@@ -145,7 +145,7 @@ pub data Outer : Type 0 where
   Valuing : Naming → Option ConstantExpr → List ConstantExpr → Outer
   Listed : ObjectKind → List Object → Outer
 
--- the parser's state between two tokens; at file scope it has the complete external declarations
+-- the parser's state between two tokens; at file scope it contains the complete external declarations
 pub data State : Type 0 where
   AtFile : List External → Outer → State
   InBody : Inside → Stage → State
@@ -183,7 +183,7 @@ completed (Infix op a) e = Binary op a e
 completed (Then c) e = e
 completed (Otherwise c a) e = Conditional c a e
 
--- an expression and its pending parts, before an operator of this level
+-- the expression that precedes an operator of this level, and the parts that stay pending
 abbrev pub reduced : ℕ → List Waiting → Expr → Expr × List Waiting
 reduced level [] e = (e, [])
 reduced level (w ∷ ws) e = if nat_le level (tightness w) then reduced level ws (completed w e) else (e, w ∷ ws)
@@ -191,20 +191,19 @@ reduced level (w ∷ ws) e = if nat_le level (tightness w) then reduced level ws
 abbrev pub full_of : Context → List Waiting → ℕ → Full
 full_of c ws n = record { context = c; waiting = ws; count = n }
 
--- a full expression with one more token
+-- the state after one more token of a full expression
 abbrev pub goes_on : Full → List Waiting → Phase → Option State
 goes_on f ws p = Some (InFull (full_of f.context ws (suc f.count)) p)
 
--- a full expression after this many of its tokens
+-- the state in which a full expression begins, after its first `n` tokens
 abbrev pub begins_full : Context → ℕ → Option State
 begins_full c n = Some (InFull (full_of c [] n) Operand)
 
 abbrev pub inside_of : Inside → Stmts → List Open → Inside
 inside_of b done os = record { externals = b.externals; signature = b.signature; finished = done; opened = os }
 
--- The body once a statement is complete, and what comes next. The statement completes the loops that await it, and goes into the
--- innermost block. If it is the part of an `if` that an `else` may follow, the next token decides, unless it is known not to be
--- an `else`.
+-- The body once a statement is complete, and what comes next. The statement completes the loops that await it, and goes into the innermost
+-- block. If `waits` is true and the statement is the first part of an `if`, the next token decides whether the `if` is complete.
 abbrev pub settled : Bool → Inside → List Open → Stmt → Inside × Stage
 settled waits b [] s = (inside_of b (with_last b.finished s) [], Item)
 settled waits b (InBlock ss ∷ os) s = (inside_of b b.finished (InBlock (with_last ss s) ∷ os), Item)
@@ -221,11 +220,11 @@ in_body r = InBody r.0 r.1
 abbrev pub settle : Inside → Stmt → Option State
 settle b s = Some (in_body (settled true b b.opened s))
 
--- one more open statement
+-- the state after one more statement has begun
 abbrev pub opens : Inside → Open → Option State
 opens b o = Some (InBody (inside_of b b.finished (o ∷ b.opened)) Item)
 
--- the end of a declaration of locals
+-- the state after a declaration of locals
 abbrev pub declares : Inside → Position → Scalar → List Declarator → Option State
 declares b AsLocal t ds = settle b (Local t ds)
 declares b AsHeader t ds = Some (InBody b (ForTesting (Declares t ds)))
@@ -299,7 +298,7 @@ abbrev pub end_full : Context → ℕ → Expr → Role → Option State
 end_full (OfBody b p) k e r = end_in_body b p k e r
 end_full (OfObject es n p) k e r = end_in_object es n p e r
 
--- a closing token after an expression, with the pending parts
+-- a closing token after an expression, given the pending parts
 abbrev pub close : Full → Role → Expr × List Waiting → Option State
 close f r (e, []) = end_full f.context f.count e r
 close f role.CloseParenthesis (e, Parenthesis ∷ ws) = goes_on f ws (Operator (Parenthesised e))
@@ -323,7 +322,7 @@ open_name f (Variable n) role.OpenParenthesis = goes_on f (Arguments n none ∷ 
 open_name f (Variable n) role.OpenBracket = goes_on f (Index n ∷ f.waiting) Operand
 open_name f _ _ = None
 
--- the assignment target that an expression is
+-- the expression as an assignment target
 abbrev pub target_of : Expr → Option Target
 target_of (Variable n) = Some (AtVariable n)
 target_of (Element n e) = Some (AtElement n e)
@@ -553,7 +552,7 @@ result_sign_step es t role.Int x = file es (Typed (Some t))
 result_sign_step es t role.Char x = char_step es t
 result_sign_step es t r x = typed_step es (Some t) r x
 
--- a token after the name of an object that is not an array; of `unsigned char` there are only arrays
+-- a token after the name of an object that is not an array; only array elements can be `unsigned char`
 abbrev pub single_step : List External → Naming → ObjectKind → Role → Option State
 single_step es n (Words t) (role.Assignment assignment.Plain) = file es (Initialising n)
 single_step es n (Words t) r = separated es n.kind (with_object n (Single n.name None)) r
@@ -684,7 +683,7 @@ abbrev pub item_level : ℕ → Role → ℕ
 item_level depth role.CloseBrace = 0
 item_level depth _ = suc (suc depth)
 
--- how many statements stay open after a complete one that no `else` follows; None if a `do` then awaits its `while`
+-- how many statements stay open once a statement is complete and no `else` follows it; None if a `do` then awaits its `while`
 abbrev pub resting_depth : List Open → Option ℕ
 resting_depth [] = Some 0
 resting_depth (InBlock ss ∷ os) = Some (suc (length os))

@@ -1,5 +1,5 @@
--- The parser's state as `Parser` defines it, without its place in memory, and what the parser's functions return, in terms of
--- that state. No public contract cites this file.
+-- The parser's state in the code as a state of `Parser`, and what the parser's functions return, in terms of such states. No
+-- public contract cites this file.
 use Rattle.std.specs.Prelude.{◌≡◌, ◌<◌, ℕ, List, slice_range, reverse, map, Option, Some, None, Result, Ok, Err}
 use Rattle.cc_syntax.specs.declared.parser.state.Waiting as waiting
 use Rattle.cc_syntax.specs.declared.parser.state.Waiting.TheVariants as waitings
@@ -82,7 +82,7 @@ abbrev pub position_view : position.Position → Position
 position_view positions.Local = AsLocal
 position_view positions.Header = AsHeader
 
--- an action's place and a declaration of locals are taken from the parser's fields
+-- the purpose of a full expression, with the action's `Spot` and the declaration of locals from the parser's fields
 abbrev pub purpose_view : spot.Spot → locals.Locals → purpose.Purpose → Purpose
 purpose_view p l purposes.Perform = ToPerform (spot_view p)
 purpose_view p l (purposes.Assign op t) = ToAssign op (target_tree t) (spot_view p)
@@ -110,7 +110,7 @@ phase_view (phases.Operator e) = Operator (expression_tree e.value)
 phase_view (phases.CastSign t) = CastSign t
 phase_view (phases.CastType t) = CastType t
 
--- the number is how many tokens an increment or decrement has
+-- what comes next in a function's body; the number is how many tokens an increment or decrement has
 abbrev pub stage_view : spot.Spot → locals.Locals → ℕ → stage.Stage → Stage
 stage_view p l k stages.Item = Item
 stage_view p l k (stages.AfterThen e s) = AfterThen (expression_tree e.value) (statement_tree s.value)
@@ -150,7 +150,7 @@ outer_view f n v outers.Listing = Listing (naming_view n) (optional_constant v.s
 outer_view f n v outers.Valuing = Valuing (naming_view n) (optional_constant v.size) (constant_trees v.values.items)
 outer_view f n v outers.Listed = Listed n.kind (object_trees n.objects.items)
 
--- the same with the parser's fields
+-- what comes next at file scope, taken from the parser's fields
 abbrev pub outer_of : parser.Parser → outer.Outer → Outer
 outer_of p next = outer_view p.signature p.naming p.list next
 
@@ -175,16 +175,16 @@ view_at p readings.Full = InFull (full_view p) (phase_view p.full.phase)
 abbrev pub parser_view : parser.Parser → State
 parser_view p = view_at p p.at
 
--- the name that a token gives
+-- a token as a name
 abbrev pub name_at : cursor.Cursor → Name
 name_at c = record { text = slice_range c.text.now c.token.from c.token.to; at = c.token.from }
 
--- a full expression exceeds its limit
+-- there is a state, and in it a full expression exceeds its limit
 abbrev pub PassesCount : Option State → Type 0
 PassesCount None = ⊥
 PassesCount (Some m) = 512 < count_of m
 
--- a step leaves the parser as the state says, unless memory ran out
+-- `given` justifies stopping for this reason; memory may run out at any step
 abbrev pub Stops : stop.Stop → Option State → Type 0
 Stops stops.Memory given = Unit {0}
 Stops stops.Unexpected given = given ≡ None
@@ -194,14 +194,14 @@ abbrev pub Gives : {X : Type 0} → Option State → Result X stop.Stop → pars
 Gives given (Ok _) p = given ≡ Some (parser_view p)
 Gives given (Err e) p = Stops e given
 
--- what reading a token gives, with the limits checked
+-- the result of reading a token is right, with the limits checked
 abbrev pub Advances : {X : Type 0} → State → Lexeme → Result X stop.Stop → parser.Parser → Type 0
 Advances s x (Ok _) p = (step s x ≡ Some (parser_view p)) × IsWithin (standing s x (parser_view p))
 Advances s x (Err stops.Memory) p = Unit {0}
 Advances s x (Err stops.Unexpected) p = step s x ≡ None
 Advances s x (Err stops.TooDeep) p = (m : State) × (step s x ≡ Some m) × PassesLimit (standing s x m)
 
--- why the tokens spell no unit within the limits
+-- the refusal is right: it names the first token that breaks the grammar or a limit, or memory ran out
 abbrev pub Refuses : List Lexeme → refusal.Refusal → Type 0
 Refuses tokens refusals.Memory = Unit {0}
 Refuses tokens (refusals.Unexpected k) = IsFineBefore tokens k × UnexpectedAt tokens k

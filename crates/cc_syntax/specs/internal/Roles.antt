@@ -1,4 +1,4 @@
--- What a token is to the grammar.
+-- The role of a token in the grammar.
 use Rattle.cc_tokens.specs.declared.scalar.Scalar.TheVariants as scalar
 use Rattle.cc_ast.specs.declared.ast.UnaryOperator.TheVariants as unary
 use Rattle.cc_ast.specs.declared.ast.BinaryOperator.TheVariants as binary

@@ -86,7 +86,7 @@ impl Parser {
         }
     }
 
-    /// Notes a statement for which only the semicolon is missing.
+    /// Records a statement that lacks only its semicolon.
     fn ending(&mut self, statement: Statement) -> Result<(), Stop>
         ensures { Gives (Some (InBody (body_view self.old) (Ending (statement_tree statement)))) result self.new }
     {
@@ -143,7 +143,7 @@ impl Parser {
         }
     }
 
-    /// Reads a token after the part of an `if` that an `else` may follow.
+    /// Reads the token after the first part of an `if`, which may be `else`.
     fn step_else(
         &mut self,
         test: Box<Expression>,

@@ -1,4 +1,4 @@
-// A token in its text.
+// A token, with the text that it is in.
 
 ghost use Rattle.std.specs.Prelude.{◌≡◌, ◌≤◌, length, IfOk};
 
@@ -6,7 +6,7 @@ use cc_ast::Identifier;
 use cc_tokens::Token;
 use std::alloc::{AllocError, Global};
 
-/// A token, and the text that has its bytes.
+/// A token, and the text that contains its bytes.
 #[derive(Clone, Copy)]
 pub struct Cursor<'a> {
     pub text: &'a [u8],

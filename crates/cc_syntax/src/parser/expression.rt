@@ -97,8 +97,8 @@ fn complete(
     }
 }
 
-/// Returns the expression in front of an operator of this level: every pending part that binds at least as tightly takes its
-/// operand.
+/// Returns the expression that precedes an operator of this level: every pending part that binds at least as tightly is
+/// completed.
 pub fn reduce(
     alloc: Global,
     level: usize,

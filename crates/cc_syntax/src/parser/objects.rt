@@ -1,5 +1,5 @@
-// The declarations of objects, without the constant expressions in them. `naming` has the declaration so far, and `list` what has
-// been read of an array.
+// The declarations of objects, without the constant expressions in them. `naming` contains the declaration so far, and `list` the
+// array so far.
 
 ghost use Rattle.std.specs.Prelude.{◌≡◌, [], ◌∷◌, ◌++◌, IfOk, None};
 ghost use Rattle.cc_ast.specs.Erase.{name_tree, external_trees, object_tree, object_trees, optional_constant, constant_trees};
@@ -115,7 +115,7 @@ impl Parser {
         }
     }
 
-    /// Reads a token after the name of an object that is not an array. There are only arrays of `unsigned char`.
+    /// Reads a token after the name of an object that is not an array. Only array elements can be `unsigned char`.
     fn step_single(&mut self, role: Role) -> Result<(), Stop>
         ensures { Gives (single_step (external_trees self.old.externals.items) (naming_view self.old.naming) self.old.naming.kind role) result self.new }
     {

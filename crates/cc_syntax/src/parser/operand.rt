@@ -65,7 +65,7 @@ impl Parser {
         }
     }
 
-    /// Adds a pending part, after one more token.
+    /// Counts one more token, and adds a pending part.
     pub fn to_waiting(&mut self, one: Waiting) -> Result<(), Stop>
         ensures { Gives (goes_on (full_view self.old) (waiting_view one ∷ waiting_views self.old.full.waiting.items) Operand) result self.new }
     {
@@ -109,7 +109,7 @@ impl Parser {
         }
     }
 
-    /// Reads a token after `signed` or `unsigned` of a cast.
+    /// Reads a token after `signed` or `unsigned` in a cast.
     fn step_cast_sign(&mut self, scalar: Scalar, role: Role) -> Result<(), Stop>
         ensures { Gives (cast_sign_step (full_view self.old) scalar role) result self.new }
     {

@@ -14,7 +14,7 @@ use crate::parser::state::{Context, Parser, Phase, Purpose, Waiting};
 use crate::parser::stop::Stop;
 use cc_ast::{AssignmentOperator, BinaryOperator, Expression, Identifier, StepOperator, Target};
 
-/// The assignment target that an expression is, or `None` if it is not one.
+/// Returns the expression as an assignment target, or `None` if it cannot be one.
 fn target(expression: Box<Expression>) -> Option<Target>
     ensures { option_map target_tree result ≡ target_of (expression_tree expression.value) }
 {
@@ -80,7 +80,7 @@ impl Parser {
         }
     }
 
-    /// Reads an assignment operator after an operand: an action that begins with a target continues.
+    /// Reads an assignment operator after an operand, which must be the target that begins an action.
     fn step_assignment(
         &mut self,
         operand: Box<Expression>,
@@ -106,7 +106,7 @@ impl Parser {
         }
     }
 
-    /// Reads `++` or `--` after an operand: it ends an action that begins with a target.
+    /// Reads `++` or `--` after an operand, which must be the target that begins an action.
     fn step_step(&mut self, operand: Box<Expression>, operator: StepOperator) -> Result<(), Stop>
         ensures { Gives (step_target (full_view self.old) (expression_tree operand.value) operator (waiting_views self.old.full.waiting.items)) result self.new }
     {

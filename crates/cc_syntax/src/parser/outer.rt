@@ -165,7 +165,7 @@ impl Parser {
         }
     }
 
-    /// Reads a token after `signed` or `unsigned` of a parameter.
+    /// Reads a token after `signed` or `unsigned` in a parameter's type.
     fn step_parameter_sign(
         &mut self,
         scalar: Scalar,

@@ -1,8 +1,8 @@
 // Reading all tokens, one after another.
 //
-// A text is first read token by token, without a list of tokens, which would take memory. If that yields no tree, the tokens are
-// put into a list. Making the list finds the first error of the text, and reading it finds the first token that breaks the
-// grammar or a limit.
+// A text is first read token by token, without a list of tokens, which would need memory. If that yields no tree, the tokens are
+// put into a list. Making the list finds the text's first lexical error, and reading the list finds the first token that breaks
+// the grammar or a limit.
 
 ghost use Rattle.std.specs.Prelude.{◌≡◌, length, IfSome, MatchResult};
 ghost use Rattle.std.specs.Option.{option_map};
@@ -44,8 +44,8 @@ impl Parser {
         }
     }
 
-    /// Returns the external declarations that a text spells, without a list of its tokens. `None` if the text is refused or
-    /// memory runs out.
+    /// Returns the external declarations that a text spells, without making a list of its tokens. Returns `None` if the text is
+    /// refused or memory runs out.
     pub fn read_text(&mut self, text: &[u8]) -> Option<Vec<External>>
         ensures { IfSome result (λ es. SpellsText text.now (external_trees es.items)) }
     {

@@ -1,4 +1,4 @@
-// What a token is to the grammar.
+// The role of a token in the grammar.
 
 ghost use Rattle.std.specs.Prelude.{◌≡◌};
 ghost use Rattle.cc_syntax.specs.internal.Roles.{role_of, keyword_role, punctuator_role};
@@ -6,7 +6,7 @@ ghost use Rattle.cc_syntax.specs.internal.Roles.{role_of, keyword_role, punctuat
 use cc_ast::{AssignmentOperator, BinaryOperator, StepOperator, UnaryOperator};
 use cc_tokens::{Keyword, Punctuator, Scalar, TokenKind};
 
-/// What a token is to the grammar.
+/// The role of a token in the grammar.
 #[derive(Clone, Copy)]
 pub enum Role {
     Identifier,
@@ -121,7 +121,7 @@ fn of_punctuator(punctuator: Punctuator) -> Role
     }
 }
 
-/// What a token of this kind is to the grammar.
+/// The role of a token of this kind in the grammar.
 pub fn of_kind(kind: TokenKind) -> Role
     ensures { result ≡ role_of kind }
 {

@@ -1,4 +1,4 @@
-// Statements that are complete, and statements that begin.
+// How statements begin, and what becomes of a complete statement.
 
 ghost use Rattle.std.specs.Prelude.{◌≡◌, IfOk, Some, None, true};
 ghost use Rattle.cc_ast.specs.Erase.{statement_tree, statements_of, expression_tree, declarator_trees, action_tree};
@@ -15,7 +15,7 @@ use cc_ast::{Action, Beginning, Expression, External, Statement};
 use std::alloc::{AllocError, Global};
 use std::mem::replace;
 
-/// A list of at most this many statements takes room for exactly as many as it has.
+/// A list of at most this many statements has room for exactly as many as it contains.
 const SHORT: usize = 4;
 
 /// Makes a block of statements.
@@ -32,8 +32,8 @@ fn boxed(alloc: Global, statement: Statement) -> Result<Box<Statement>, AllocErr
     Ok(Box::new(alloc, statement)?)
 }
 
-/// Most lists of statements are short. So the first few statements get their room one at a time, and a block with one statement
-/// takes room for one.
+/// Most lists of statements are short. So room for the first few statements is made one at a time, and a block with one statement
+/// uses room for only one.
 fn make_room(statements: &mut Vec<Statement>) -> Result<(), AllocError>
     ensures { statements.new.items ≡ statements.old.items }
 {
@@ -57,7 +57,7 @@ fn add_statement(
 
 impl Parser {
     /// Adds a complete statement to the body, with the loops that it completes, and sets what comes next. If an `else` may follow
-    /// and `waits` is set, the next token decides.
+    /// and `waits` is set, the next token decides whether the `if` is complete.
     pub fn settle_body(&mut self, waits: bool, statement: Box<Statement>) -> Result<(), AllocError>
         ensures { IfOk result (λ _. settled waits (body_view self.old) (open_views self.old.body.open.items) (statement_tree statement.value) ≡ (body_view self.new, stage_of self.new self.new.body.stage)) }
     {

@@ -31,7 +31,7 @@ pub enum Waiting {
     Otherwise(Box<Expression>, Box<Expression>),
 }
 
-/// A statement that has begun and is not complete: a block awaits its end, and any other one awaits a statement.
+/// A statement that has begun and is not complete: a block awaits its end, and any other open statement awaits a statement.
 #[derive(Drop)]
 pub enum Open {
     Block(Vec<Statement>),
@@ -66,7 +66,7 @@ pub enum Position {
     Header,
 }
 
-/// A declaration of locals so far: the complete ones, and a name. The name is also used for the one after `++` or `--`.
+/// A declaration of locals so far: the complete locals, and a name. The same field holds the name after `++` or `--`.
 #[derive(Drop)]
 pub struct Locals {
     pub position: Position,
@@ -112,7 +112,7 @@ pub struct Values {
     pub values: Vec<ConstantExpression>,
 }
 
-/// What a constant expression is for the named object, and the offset of its first token.
+/// What a constant expression is used for in the named object, and the offset of the expression's first token.
 #[derive(Clone, Copy)]
 pub enum Part {
     Size(usize),
@@ -134,7 +134,7 @@ pub enum Phase {
     Operand,
     /// An operator or the end comes, after an operand.
     Operator(Box<Expression>),
-    /// `int` or a closing parenthesis comes, after `signed` or `unsigned` of a cast.
+    /// `int` or a closing parenthesis comes, after `signed` or `unsigned` in a cast.
     CastSign(Scalar),
     /// A closing parenthesis comes, after the type of a cast.
     CastType(Scalar),
@@ -180,9 +180,9 @@ pub enum Stage {
     Declared,
     /// A name, after `++` or `--`.
     Stepping(StepOperator),
-    /// `[` or the end, after the name that `++` or `--` changes.
+    /// `[` or the end of the action, after the name that `++` or `--` changes.
     StepNamed(StepOperator),
-    /// The end, after an increment or decrement whose tokens have been counted.
+    /// The end of the action, after an increment or decrement whose tokens have been counted.
     Stepped(StepOperator, Target),
 }
 
@@ -248,8 +248,8 @@ pub enum At {
     Full,
 }
 
-/// A text so far: the complete external declarations, what is being read, and what comes next in each part. All parts stay in
-/// place and are changed there; a part that is not being read keeps its last value.
+/// What has been read of a text: the complete external declarations, what is being read, and what comes next in each part. All
+/// parts stay in place and are changed there; a part that is not being read keeps its last value.
 #[derive(Drop)]
 pub struct Parser {
     pub alloc: Global,
@@ -273,7 +273,7 @@ pub fn put<T: Drop>(place: &mut T, value: T)
     *place = value;
 }
 
-/// An identifier without bytes, to replace one that was taken.
+/// An identifier without bytes, to replace one that was moved out.
 pub fn no_name(alloc: Global) -> Identifier {
     Identifier {
         bytes: Vec::new(alloc),
@@ -281,7 +281,7 @@ pub fn no_name(alloc: Global) -> Identifier {
     }
 }
 
-/// An empty head of a function, to replace one that was taken.
+/// An empty head of a function, to replace one that was moved out.
 pub fn no_signature(alloc: Global) -> Signature {
     Signature {
         result: None,
@@ -320,7 +320,7 @@ pub fn no_body(alloc: Global) -> Body {
     }
 }
 
-/// A full expression of no tokens.
+/// A full expression without tokens.
 pub fn no_full(alloc: Global) -> Full {
     Full {
         context: Context::Body(Purpose::Perform),
@@ -331,7 +331,7 @@ pub fn no_full(alloc: Global) -> Full {
 }
 
 impl Parser {
-    /// Puts the parser before the first token.
+    /// Resets the parser to its state before the first token.
     pub fn restart(&mut self)
         ensures { parser_view self.new ≡ start }
     {
@@ -373,7 +373,7 @@ impl Parser {
         }
     }
 
-    /// Begins a full expression after this many of its tokens.
+    /// Begins a full expression after its first `count` tokens.
     pub fn open_full(&mut self, context: Context, count: Count)
         ensures full { full_view self.new ≡ full_of (context_of self.old context) [] count.tokens }
         ensures state { parser_view self.new ≡ InFull (full_of (context_of self.old context) [] count.tokens) Operand }
@@ -385,7 +385,7 @@ impl Parser {
         self.at = At::Full;
     }
 
-    /// Begins a full expression with an operand.
+    /// Begins a full expression after its first `count` tokens, with an operand next.
     pub fn begin_full(&mut self, context: Context, count: Count) -> Result<(), Stop>
         ensures { Gives (begins_full (context_of self.old context) count.tokens) result self.new }
     {

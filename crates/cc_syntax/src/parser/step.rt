@@ -20,7 +20,8 @@ fn level_behind(count: usize, role: Role) -> usize
     }
 }
 
-/// How many open statements remain after a complete one that no `else` follows. `None` if a `do` then awaits its `while`.
+/// How many open statements remain once a statement is complete and no `else` follows it. `None` if a `do` then awaits
+/// its `while`.
 fn rest(statements: &[Open]) -> Option<usize>
     ensures depth { result ≡ resting_depth (open_views statements.now) }
     ensures within { IfSome result (λ left. left ≤ length statements.now) }

@@ -10,7 +10,7 @@ use Rattle.cc_tasks.specs.declared.fault.Fault.TheVariants.{Text, Meaning, Piece
 abbrev pub IsUnknown : (text name : List ℕ) → Type 0
 IsUnknown text name = (p : ProgramOf text) × (IsDefined p.program name → ⊥)
 
--- a fault of the text is a refusal of that text, as for every task; about other faults this says nothing
+-- a fault of the text is a refusal of that text, as for every task; any other fault but 53 may come
 abbrev pub IsTextRefused : (text : List ℕ) → Fault → Type 0
 IsTextRefused text (Text f) = IsTextRefusal text f
 IsTextRefused text (Meaning f) = Unit {0}

@@ -1,4 +1,4 @@
--- How far a task was done.
+-- How far a task got.
 use Rattle.std.specs.Prelude.{◌≡◌, ◌⊎◌, ℕ, Bool, true, false, List, Option, Result, Ok, Err}
 use Rattle.std.specs.Io.KnownBytes.{Appends, Keeps}
 use Rattle.cc_task.specs.declared.task.Task.{Task}
@@ -10,13 +10,13 @@ use Rattle.cc_tasks.specs.declared.explain.Matter.TheVariants.{Text, Wrong, Goin
 use Rattle.cc_tasks.specs.declared.fault.Fault.{Fault}
 use Rattle.cc_tasks.specs.declared.fault.Fault.TheVariants.{Text as NoText, Meaning, Piece, Link, UnknownFunction, OutOfMemory, Read, Write}
 
--- the write succeeded, and the flush wrote nothing more; or one of the two failed: 54
+-- the write succeeded, and the flush wrote nothing more; or one of the two failed (54)
 abbrev pub Flushes : {T E U : Type 0} → Result T E → (old new : Option (List ℕ)) → Result U Fault → Type 0
 Flushes (Ok done) old new (Ok flushed) = Keeps old new
 Flushes (Err failed) old new (Ok flushed) = ⊥
 Flushes write old new (Err fault) = fault ≡ Write
 
--- the line of this fault was written; or it could not be written: 54
+-- the line of this fault was written; or the line could not be written (54)
 abbrev pub RefusesBy : (fault : Fault) (text : List ℕ) (old new : Option (List ℕ)) (told : Fault) → Type 0
 RefusesBy fault text old new told = (told ≡ Write) ⊎ ((told ≡ fault) × Appends old new (fault_text text fault))
 
@@ -26,16 +26,16 @@ pub record IsAnsweredFor (task : Task) (text : List ℕ) (old new : Option (List
   pub answers : Answers task text answer
   pub written : Appends old new (answer_text answer)
 
--- the text has this fault, and the fault's line was written; or it could not be written: 54
+-- the text has this fault, and the fault's line was written; or the line could not be written (54)
 abbrev pub IsRefusedFor : Task → (text : List ℕ) (old new : Option (List ℕ)) → Fault → Type 0
 IsRefusedFor task text old new fault = (fault ≡ Write) ⊎ (IsRefused task text fault × Appends old new (fault_text text fault))
 
--- why there is no answer: something could not be written, 54, and nothing is known about what was written; or the line of the
--- fault was written
+-- why there is no answer: something could not be written (54), and nothing is known about what was written; or the line of
+-- the fault was written
 abbrev pub HasNoAnswer : Task → (input old new : Option (List ℕ)) → Fault → Type 0
 HasNoAnswer task input old new fault = (fault ≡ Write) ⊎ IsToldFault task input old new fault
 
--- the status of an answer that leaves this to be explained
+-- the status of an answer after which this is to be explained
 abbrev pub matter_status : Matter → ℕ
 matter_status Text = 0
 matter_status (Wrong cause) = 0
@@ -52,7 +52,7 @@ abbrev pub IsDoneFor : Task → (input old new : Option (List ℕ)) → Result M
 IsDoneFor task input old new (Ok matter) = (it : IsAnswered task input old new) × (matter_status matter ≡ answer_status it.answer)
 IsDoneFor task input old new (Err fault) = HasNoAnswer task input old new fault
 
--- the status: that of the answer, 1 for a fault
+-- the status of the answer, or 1 for a fault
 abbrev pub status_of : Result Matter Fault → ℕ
 status_of (Ok matter) = matter_status matter
 status_of (Err fault) = 1

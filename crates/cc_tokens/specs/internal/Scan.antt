@@ -1,5 +1,5 @@
 -- What the private functions of the scanner return, as functions on lists. The definition of a text's tokens does not depend on
--- them: the proofs show that they agree with it.
+-- these functions; the proofs show that the functions agree with it.
 use Rattle.std.specs.Prelude.{ℕ, zero, suc, ◌+◌, Bool, true, false, not, ◌||◌, ◌&&◌, ◌==◌, nat_lt, if◌then◌else◌, slice_index, List, [], ◌∷◌, length, take, drop, Option, Some, None, Result, Ok, Err}
 use Rattle.std.specs.List.{find, prefix_len, starts_with}
 use Rattle.std.specs.Str.{bytes_eq}
@@ -46,7 +46,7 @@ unfoldable pub run_length : (ℕ → ℕ → Bool) → ℕ → List ℕ → ℕ
 run_length may before [] = 0
 run_length may before (b ∷ bs) = if may before b then suc (run_length may b bs) else 0
 
--- the keywords that begin with a byte
+-- the keywords that begin with this byte
 -- ORDER Keyword
 abbrev pub keywords_with : ℕ → List Keyword
 keywords_with b =
@@ -68,7 +68,7 @@ keywords_with b =
     else (if b == 119 then keyword.While ∷ []
     else [])))))))))))))))
 
--- the punctuators that begin with a byte, the longest first
+-- the punctuators that begin with this byte, the longest first
 -- ORDER Punctuator
 abbrev pub punctuators_with : ℕ → List Punctuator
 punctuators_with b =
@@ -117,14 +117,14 @@ base_of bytes = if slice_index bytes 0 == 48 then (if slice_index bytes 1 == 120
 abbrev pub prefix_of_base : ℕ → ℕ
 prefix_of_base base = if base == 10 then 0 else (if base == 8 then 1 else 2)
 
--- whether these bytes are a suffix; no bytes count as none, anything else as neither
+-- Some true if these bytes are the suffix `u` or `U`, Some false if there are no bytes, and None for anything else
 unfoldable pub suffix_of : List ℕ → Option Bool
 suffix_of bytes =
     if length bytes == 0 then Some false
     else (if length bytes == 1 && (slice_index bytes 0 == 117 || slice_index bytes 0 == 85) then Some true
     else None)
 
--- the constant that follows a prefix, whose first n bytes are digits
+-- the constant in this base with these digits, if a suffix (which may be empty) follows them
 abbrev pub with_suffix : ℕ → List ℕ → Option Bool → Option Constant
 with_suffix base digits None = None
 with_suffix base digits (Some suffixed) = Some (record { base = base; digits = digits; suffixed = suffixed })
@@ -159,7 +159,7 @@ abbrev pub punctuator_head : Option Punctuator → Head
 punctuator_head None = head.Error BadByte 0
 punctuator_head (Some p) = head.Token (kind.Punctuator p) (length (punctuator_bytes p))
 
--- a comment of n bytes, unless there is a line splice in it
+-- a comment of n bytes, or an error if there is a line splice in the comment
 abbrev pub spliced : ℕ → ℕ → Head
 spliced n place = if nat_lt place n then head.Error BadByte place else head.Comment n
 

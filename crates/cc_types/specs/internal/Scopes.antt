@@ -3,7 +3,7 @@ use Rattle.std.specs.Prelude.{ℕ, Bool, false, List, map, Option, Some, None, n
 use Rattle.cc_ast.specs.scalar.Scalar.{Scalar}
 use Rattle.cc_ast.specs.Tree.{Parameter}
 
--- a number that is at least k
+-- there is a number, and it is at least k
 abbrev pub from : ℕ → Option ℕ → Bool
 from k None = false
 from k (Some n) = nat_le k n

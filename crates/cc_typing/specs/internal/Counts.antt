@@ -8,12 +8,12 @@ use Rattle.cc_types.specs.declared.rule.Rule.TheVariants.{TooMany}
 use Rattle.cc_types.specs.internal.Externals.{defined_in}
 use Rattle.cc_typing.specs.declared.limits.Words.{Words}
 
--- the error of a limit that was exceeded at this offset, if there is one
+-- the error for a limit that is exceeded at this offset, if there is such an offset
 abbrev pub excess_of : Option ℕ → List RuleError
 excess_of None = []
 excess_of (Some at) = record { rule = TooMany; at = at } ∷ []
 
--- the words of the objects so far, and the offset of the object that exceeded the limit on them
+-- how many words the objects so far have, and the offset of the object that exceeded the limit on words
 pub record WordCount : Type 0 where
   pub taken : ℕ
   pub past : Option ℕ
@@ -31,7 +31,7 @@ abbrev pub words_after : WordCount → List Object → WordCount
 words_after w [] = w
 words_after w (o ∷ rest) = words_after (with_words w o) rest
 
--- the functions that these external declarations define, the last one first, and then the functions d that were defined before
+-- the functions that these external declarations define, the last one first, and then the earlier functions `d`
 abbrev pub all_defined : List External → List (List ℕ) → List (List ℕ)
 all_defined [] d = d
 all_defined (e ∷ rest) d = all_defined rest (defined_in e ++ d)

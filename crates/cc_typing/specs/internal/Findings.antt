@@ -10,7 +10,7 @@ use Rattle.cc_types.specs.declared.rule.Rule.TheVariants.{Redeclared}
 use Rattle.cc_types.specs.declared.rule.RuleError.{RuleError}
 use Rattle.cc_typing.specs.declared.around.Surroundings.{Surroundings}
 
--- the error o comes before the error p: by offset, then by number
+-- whether the error `o` comes before the error `p`: by offset, then by number
 abbrev pub is_before : RuleError → RuleError → Bool
 is_before o p = nat_lt o.at p.at || (o.at == p.at && nat_lt (rule_number o.rule) (rule_number p.rule))
 
@@ -19,7 +19,7 @@ abbrev pub earlier : Option RuleError → RuleError → RuleError
 earlier None o = o
 earlier (Some p) o = if is_before o p then o else p
 
--- the first error once these further errors were noted
+-- the first error once these further errors are recorded
 abbrev pub noted : Option RuleError → List RuleError → Option RuleError
 noted first [] = first
 noted first (o ∷ rest) = noted (Some (earlier first o)) rest

@@ -1,4 +1,4 @@
--- How the code keeps which functions are defined.
+-- How the code stores which functions are defined.
 use Rattle.std.specs.Prelude.{ℕ, ◌≡◌, ◌≤◌, Bool, false, List, length, reverse, Option, Some, None}
 use Rattle.std.specs.Borrow.{Bor}
 use Rattle.cc_types.specs.Numberings.{AreNumbers, number_of_name, at_number}
@@ -11,11 +11,11 @@ pub record Functions : Type 0 where
   pub defined : List (List ℕ)
   pub before : List (List ℕ)
 
--- names that the code keeps newest last, in the order of the definitions, newest first
+-- names that the code stores newest last; the definitions have them newest first
 abbrev pub newest_first : List (Bor (List ℕ)) → List (List ℕ)
 newest_first keys = names_in (reverse keys)
 
--- what an entry says: defined, or defined before; without an entry neither holds
+-- what an entry says: defined, or defined before; if there is no entry, neither holds
 abbrev pub is_defined : Option State → Bool
 is_defined None = false
 is_defined (Some s) = s.defined

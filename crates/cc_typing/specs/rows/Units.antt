@@ -130,8 +130,7 @@ negated_void = refl
 missing_value : errors (tree.Definition (record { result = (Some Int); name = (name (codes "main") 4); parameters = [] }) (tree.next (tree.Return 15 None) tree.end) ∷ []) ≡ broken BadReturn 15
 missing_value = refl
 
--- a unit with each kind of statement, part by part
--- int a[3]={1,2};
+-- a unit with each kind of statement, part by part int a[3]={1,2};
 abbrev a_listed : External
 a_listed = tree.Objects Int (tree.Array (name (codes "a") 4) (Some (record { at = 6; expr = (tree.Number Int 3) })) ((record { at = 10; expr = (tree.Number Int 1) }) ∷ (record { at = 12; expr = (tree.Number Int 2) }) ∷ []) ∷ [])
 
@@ -202,7 +201,7 @@ wrong_part_not_evaluated = refl
 unsigned_and_signed : errors (tree.Objects Int (tree.Array (name (codes "a") 4) (Some (record { at = 6; expr = (tree.Binary Less (tree.Number Int 1) (tree.Number Unsigned 2)) })) [] ∷ []) ∷ tree.Definition (record { result = (Some Int); name = (name (codes "main") 16); parameters = [] }) tree.end ∷ []) ≡ []
 unsigned_and_signed = refl
 
--- the same unit calls no function that is not defined
+-- the unit `each_statement` calls no function that is not defined
 none_is_undefined : undefined_calls each_statement ≡ []
 none_is_undefined = refl
 
@@ -246,12 +245,12 @@ one_word_more = refl
 large_length : excesses (tree.Objects Int (tree.Array (name (codes "a") 4) (Some (record { at = 6; expr = (tree.Number Unsigned 2147483648) })) [] ∷ []) ∷ tree.Definition (record { result = (Some Int); name = (name (codes "main") 22); parameters = [] }) tree.end ∷ []) ≡ broken TooMany 4
 large_length = refl
 
--- a body with this many blocks {int a;}, the first of them at this offset
+-- a body with this many blocks {int a;}, beginning at this offset
 abbrev blocks : ℕ → ℕ → tree.Stmts
 blocks zero at = tree.end
 blocks (suc n) at = tree.next (tree.Block (tree.next (tree.Local Int (record { name = name (codes "a") (at + 5); initial = None } ∷ [])) tree.end)) (blocks n (at + 8))
 
--- int main(void) with this many such blocks
+-- int main(void) with this many blocks {int a;}
 abbrev with_blocks : ℕ → List External
 with_blocks n = tree.Definition (record { result = Some Int; name = name (codes "main") 4; parameters = [] }) (blocks n 15) ∷ []
 
@@ -261,7 +260,7 @@ locals_within = refl
 one_local_more : excesses (with_blocks 257) ≡ broken TooMany 2068
 one_local_more = refl
 
--- this many definitions int f10(){}, int f11(){}, .., the first of them at this offset, and then int main(void){}
+-- this many definitions int f10(){}, int f11(){}, .., beginning at this offset, and then int main(void){}
 abbrev functions_from : ℕ → ℕ → ℕ → List External
 functions_from zero number at = tree.Definition (record { result = Some Int; name = name (codes "main") (at + 4); parameters = [] }) tree.end ∷ []
 functions_from (suc n) number at = tree.Definition (record { result = Some Int; name = name (102 ∷ (48 + number / 10) ∷ (48 + number % 10) ∷ []) (at + 4); parameters = [] }) tree.end ∷ functions_from n (number + 1) (at + 11)

@@ -2,7 +2,7 @@
 use Rattle.std.specs.Prelude.{◌≡◌, refl, Some, None, pos, negsuc}
 use Rattle.cc_words.specs.Words.{signed_value, word_of, add, sub, mul, neg, eq, ne, lt_s, le_s, lt_u, le_u, is_zero, div_s, rem_s, div_u, rem_u, shl, shr_s, shr_u, and, or, xor, complement}
 
--- the greatest int, the least one, and -1
+-- the greatest int, the least int, and -1
 greatest_int : signed_value 2147483647 ≡ pos 2147483647
 greatest_int = refl
 
@@ -67,7 +67,7 @@ quotient_by_negative = refl
 remainder_by_negative : rem_s 7 4294967294 ≡ Some 1
 remainder_by_negative = refl
 
--- no value: division by zero, and division of -2147483648 by -1
+-- division by zero, and of -2147483648 by -1, has no value
 signed_by_zero : div_s 7 0 ≡ None
 signed_by_zero = refl
 
@@ -77,7 +77,7 @@ quotient_is_no_int = refl
 remainder_of_no_int : rem_s 2147483648 4294967295 ≡ None
 remainder_of_no_int = refl
 
--- the same words as unsigned numbers
+-- divisions of unsigned numbers: only the one by zero has no value
 unsigned_quotient : div_u 2147483648 4294967295 ≡ Some 0
 unsigned_quotient = refl
 

@@ -1,7 +1,7 @@
-// The stages of the program with 24 locals that are alive over a call. Each stage was read by a script that was written from
-// docs/INTERMEDIATE.md only, which also ran it on the words from 1 to 24: each writes 0 and 300.
+// The stages of the program with 24 locals that are alive over a call. A script that was written only from
+// docs/INTERMEDIATE.md read each stage and ran it on the words from 1 to 24: each stage writes 0 and 300.
 
-/// `f` as RTL, which has no dead node.
+/// `f` as RTL, which has no dead nodes.
 const F_RTL: &str = "parameters 1, entry 0
 0: nop -> 1
 1: return r0
@@ -9,7 +9,7 @@ const F_RTL: &str = "parameters 1, entry 0
 3: return r1
 ";
 
-/// `f` as Linear, whose steps are selected as they are.
+/// `f` as Linear, whose steps selection does not change.
 const F_LINEAR: &str = "f0 slots 0
   return
 ";
@@ -41,7 +41,7 @@ const MAIN_SUM: &str = "77: r47 = add r0, r1 -> 78
 100: write r25 -> 101
 ";
 
-/// `main` as Linear, whose steps are selected as they are.
+/// `main` as Linear, whose steps selection does not change.
 const MAIN_LINEAR: &str = "f1 slots 24
   read
   slot0 = x10
@@ -146,7 +146,7 @@ const MAIN_LINEAR: &str = "f1 slots 24
   return
 ";
 
-/// A function, a stage, and its lines in parts.
+/// A function, a stage, and the lines of the stage in parts.
 pub static ROW: [(&str, &str, &[&str]); 14] = [
     (
         "f",

@@ -127,6 +127,15 @@ pub fn put(code: &mut Code, node: usize, reads: u8, writes: u8) {
     }
 }
 
+/// Code with these nodes: what each reads, and what it writes.
+pub fn of_nodes(alloc: Global, nodes: &[(u8, u8, u8)]) -> Result<Code, AllocError> {
+    let mut code = idle(alloc, nodes.len())?;
+    for (node, (reads, writes, _)) in nodes.iter().enumerate() {
+        put(&mut code, node, *reads, *writes);
+    }
+    Ok(code)
+}
+
 /// A graph of this many nodes with these edges, except edges that leave the graph.
 pub fn graph(alloc: Global, nodes: usize, edges: &[(usize, usize)]) -> Result<Graph, AllocError> {
     let mut graph = Graph::new(alloc, nodes)?;

@@ -20,24 +20,33 @@ pub enum Asked {
     WithoutFaint,
 }
 
-// The registers of a set that are below 256, in order.
-fn write_set(text: &mut String, set: &RegisterSet) -> Result<(), AllocError> {
+fn put_register(text: &mut String, register: u32) -> Result<(), AllocError> {
+    write!(text, " r{register}")?;
+    Ok(())
+}
+
+// A line with a node and the registers of its set that are below 256, in order.
+fn put_set(text: &mut String, at: usize, set: &RegisterSet) -> Result<(), AllocError> {
+    write!(text, "{at}:")?;
     for register in 0..256u32 {
         if set.contains(register) {
-            write!(text, " r{register}")?;
+            put_register(text, register)?;
         }
+    }
+    text.push('\n')
+}
+
+fn put_sets(text: &mut String, live: &Liveness) -> Result<(), AllocError> {
+    for (at, set) in live.as_slice().iter().enumerate() {
+        put_set(text, at, set)?;
     }
     Ok(())
 }
 
 // The sets of a function, one line for each node.
-fn written_sets(alloc: Global, pair: &RtlPair, live: &Liveness) -> Result<String, AllocError> {
+fn written_sets(alloc: Global, live: &Liveness) -> Result<String, AllocError> {
     let mut text = String::new(alloc);
-    for (at, set) in live.as_slice().iter().enumerate() {
-        write!(text, "{at}:")?;
-        write_set(&mut text, set)?;
-        text.push('\n')?;
-    }
+    put_sets(&mut text, live)?;
     Ok(text)
 }
 
@@ -45,7 +54,7 @@ fn answer(alloc: Global, pair: &mut RtlPair, asked: Asked) -> Result<String, All
     match asked {
         Asked::Sets => {
             let live = liveness(alloc, pair.code())?;
-            written_sets(alloc, pair, &live)
+            written_sets(alloc, &live)
         }
         Asked::Text => pair.code().to_string(alloc),
         Asked::WithoutDead => {

@@ -1,27 +1,38 @@
-// Functions of some 4,000 nodes over 200 variables that are live around a loop, within a test's time.
+// Functions of some 4,000 nodes over 200 variables that are live around a loop. They have to be finished within the time that a
+// test may take.
 
 use super::helpers::{Left, left_of};
 use std::alloc::{AllocError, Global};
 use std::fmt::Write;
 use std::test::Fail;
-use tests_texts::verdict::each_passes;
+use tests_texts::verdict::row_passes;
 
-// A function that reads 200 variables, moves each to the one before it `times` times in a loop, and returns one value.
-fn rotating(alloc: Global, times: usize, value: &str) -> Result<String, AllocError> {
-    let mut text = String::new(alloc);
-    text.push_str("int main(void){")?;
+// Moves each of 200 variables to the one before it.
+fn put_round(text: &mut String) -> Result<(), AllocError> {
+    for variable in 0..199u32 {
+        write!(text, "v{}=v{};", variable, variable + 1)?;
+    }
+    text.push_str("v199=v0;")
+}
+
+fn put_declarations(text: &mut String) -> Result<(), AllocError> {
     for variable in 0..200u32 {
         write!(text, "int v{variable}=read_word();")?;
     }
+    Ok(())
+}
+
+// A function that reads 200 variables, moves each to the one before it `times` times in a loop, and returns one value.
+fn put_rotating(text: &mut String, times: usize, value: &str) -> Result<(), AllocError> {
+    text.push_str("int main(void){")?;
+    put_declarations(text)?;
     text.push_str("while(read_word()){")?;
     for _ in 0..times {
-        for variable in 0..199u32 {
-            write!(text, "v{}=v{};", variable, variable + 1)?;
-        }
-        text.push_str("v199=v0;")?;
+        put_round(text)?;
     }
-    write!(text, "}}return {value};}}")?;
-    Ok(text)
+    text.push_str("}return ")?;
+    text.push_str(value)?;
+    text.push_str(";}")
 }
 
 /// How often the variables move, which value is returned, and how many nodes are not nops: at first, without dead nodes, and
@@ -61,7 +72,8 @@ static ROTATIONS: [Row; 3] = [
 ];
 
 fn is_left(alloc: Global, row: &Row) -> Result<bool, Fail> {
-    let text = rotating(alloc, row.0, row.1)?;
+    let mut text = String::new(alloc);
+    put_rotating(&mut text, row.0, row.1)?;
     match left_of(alloc, text.as_bytes(), 0)? {
         Some(left) => Ok(left == row.2),
         None => Ok(false),
@@ -70,5 +82,8 @@ fn is_left(alloc: Global, row: &Row) -> Result<bool, Fail> {
 
 #[test]
 fn rotations(rt: HostRuntime) -> Result<(), Fail> {
-    each_passes(rt.alloc(), ROTATIONS.as_slice(), is_left)
+    for number in 0..ROTATIONS.len() {
+        row_passes(number, is_left(rt.alloc(), &ROTATIONS[number]))?;
+    }
+    Ok(())
 }

@@ -4,7 +4,7 @@
 use super::helpers::{Asked, asked_of};
 use std::alloc::Global;
 use std::test::Fail;
-use tests_texts::verdict::each_passes;
+use tests_texts::verdict::row_passes;
 
 /// A text, what is asked about its first function, and the answer.
 type Row = (&'static str, Asked, &'static str);
@@ -219,5 +219,8 @@ static ANSWERS: [Row; 11] = [
 
 #[test]
 fn answers(rt: HostRuntime) -> Result<(), Fail> {
-    each_passes(rt.alloc(), ANSWERS.as_slice(), is_answered)
+    for number in 0..ANSWERS.len() {
+        row_passes(number, is_answered(rt.alloc(), &ANSWERS[number]))?;
+    }
+    Ok(())
 }

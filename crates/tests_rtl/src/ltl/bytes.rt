@@ -1,40 +1,49 @@
 // Functions as bytes, written by hand from the tables of docs/FORMATS.md, and their listings.
 
 use cc_ltl::{LtlFault, read_ltl, write_ltl};
-use std::alloc::Global;
+use std::alloc::{AllocError, Global};
 use std::test::Fail;
-use tests_texts::verdict::{each_passes, passes};
+use tests_texts::verdict::{passes, row_passes};
 
 // One block with label 0 that returns, without slots, and entry 0.
-static RETURNS: [u8; 21] =
-    *b"\x00\x00\x00\x00\x00\x00\x00\x00\x01\x00\x00\x00\x00\x00\x00\x00\x00\x00\x0a\x00\x00";
+const RETURNS: &[u8] =
+    b"\x00\x00\x00\x00\x00\x00\x00\x00\x01\x00\x00\x00\x00\x00\x00\x00\x00\x00\x0a\x00\x00";
 
 // Three slots and three blocks: two parameters are put into slots, and their difference is computed and returned.
-static DIFFERENCE: [u8; 78] =
-    *b"\x03\x00\x00\x00\x00\x00\x00\x00\x03\x00\x00\x00\x00\x00\x00\x00\x02\x00\x02\x00\x00\x0a\x02\x01\x00\x0b\x00\x01\x00\x00\x00\x00\x00\x01\x00\x00\x00\x02\x00\x01\x07\x00\x00\x01\x08\x01\x00\x03\x01\x07\x07\x08\x2c\x01\x00\x00\x02\x00\x02\x02\x00\x07\x00\x09\x07\x2c\x01\x00\x00\x01\x00\x01\x0a\x02\x00\x0a\x00\x00";
+const DIFFERENCE: &[u8] =
+    b"\x03\x00\x00\x00\x00\x00\x00\x00\x03\x00\x00\x00\x00\x00\x00\x00\x02\x00\x02\x00\x00\x0a\x02\x01\x00\x0b\x00\x01\x00\x00\x00\x00\x00\x01\x00\x00\x00\x02\x00\x01\x07\x00\x00\x01\x08\x01\x00\x03\x01\x07\x07\x08\x2c\x01\x00\x00\x02\x00\x02\x02\x00\x07\x00\x09\x07\x2c\x01\x00\x00\x01\x00\x01\x0a\x02\x00\x0a\x00\x00";
 
 // A block for each operation.
-static KINDS: [u8; 193] =
-    *b"\x01\x00\x00\x00\x00\x00\x00\x00\x0b\x00\x00\x00\x00\x00\x00\x00\x00\x00\x00\x01\x00\x00\x00\x00\x00\x01\x00\x00\x00\x00\x00\x01\x07\xff\xff\xff\xff\x02\x00\x00\x00\x00\x00\x02\x00\x00\x00\x00\x00\x02\x01\x08\x07\x03\x00\x00\x00\x00\x00\x03\x00\x00\x00\x00\x00\x03\x12\x1f\x08\x07\x04\x00\x00\x00\x00\x00\x04\x00\x00\x00\x00\x00\x04\x04\x02\x00\x00\x00\x09\x1f\x05\x00\x00\x00\x00\x00\x05\x00\x00\x00\x00\x00\x05\x04\x02\x01\x00\x00\x09\x08\x06\x00\x00\x00\x00\x00\x06\x00\x00\x00\x01\x00\x00\x0a\x09\x06\x3f\x00\x00\x00\x07\x00\x00\x00\x01\x00\x02\x00\x00\x0a\x07\x00\x00\x00\x00\x00\x07\x08\x00\x00\x00\x00\x00\x08\x00\x00\x00\x00\x00\x08\x09\x00\x00\x00\x00\x00\x09\x00\x00\x00\x00\x00\x09\x07\x00\x00\x00\x00\xff\xff\xff\xff\x00\x00\xff\xff\xff\xff\x00\x00\x0a\x00\x00";
+const KINDS: &[u8] =
+    b"\x01\x00\x00\x00\x00\x00\x00\x00\x0b\x00\x00\x00\x00\x00\x00\x00\x00\x00\x00\x01\x00\x00\x00\x00\x00\x01\x00\x00\x00\x00\x00\x01\x07\xff\xff\xff\xff\x02\x00\x00\x00\x00\x00\x02\x00\x00\x00\x00\x00\x02\x01\x08\x07\x03\x00\x00\x00\x00\x00\x03\x00\x00\x00\x00\x00\x03\x12\x1f\x08\x07\x04\x00\x00\x00\x00\x00\x04\x00\x00\x00\x00\x00\x04\x04\x02\x00\x00\x00\x09\x1f\x05\x00\x00\x00\x00\x00\x05\x00\x00\x00\x00\x00\x05\x04\x02\x01\x00\x00\x09\x08\x06\x00\x00\x00\x00\x00\x06\x00\x00\x00\x01\x00\x00\x0a\x09\x06\x3f\x00\x00\x00\x07\x00\x00\x00\x01\x00\x02\x00\x00\x0a\x07\x00\x00\x00\x00\x00\x07\x08\x00\x00\x00\x00\x00\x08\x00\x00\x00\x00\x00\x08\x09\x00\x00\x00\x00\x00\x09\x00\x00\x00\x00\x00\x09\x07\x00\x00\x00\x00\xff\xff\xff\xff\x00\x00\xff\xff\xff\xff\x00\x00\x0a\x00\x00";
+
+// Whether a function is written as these bytes, from which it was read.
+fn is_same(again: Result<Vec<u8>, AllocError>, bytes: &[u8]) -> Result<bool, Fail> {
+    if again?.as_slice() == bytes {
+        Ok(true)
+    } else {
+        Err(Fail::from("the function has other bytes"))
+    }
+}
+
+// False if the bytes are damaged; any other fault is a failure.
+fn no_function(fault: LtlFault) -> Result<bool, Fail> {
+    if fault.number() == 37 {
+        Ok(false)
+    } else {
+        Err(Fail::from("memory ran out"))
+    }
+}
 
 // Whether the bytes are a function. Fails if that function is written as other bytes.
 fn is_function(alloc: Global, bytes: &[u8]) -> Result<bool, Fail> {
     match read_ltl(alloc, bytes) {
         Ok(ltl) => {
-            let again = write_ltl(alloc, &ltl)?;
-            if again.as_slice() == bytes {
-                Ok(true)
-            } else {
-                Err(Fail::from("the function has other bytes"))
-            }
+            let again = write_ltl(alloc, &ltl);
+            drop(ltl);
+            is_same(again, bytes)
         }
-        Err(fault) => {
-            if fault.number() == 37 {
-                Ok(false)
-            } else {
-                Err(Fail::from("memory ran out"))
-            }
-        }
+        Err(fault) => no_function(fault),
     }
 }
 
@@ -48,14 +57,14 @@ fn is_changed(alloc: Global, bytes: &[u8], place: usize, value: u8) -> Result<bo
     is_function(alloc, changed.as_slice())
 }
 
+static FUNCTIONS: [&[u8]; 3] = [RETURNS, DIFFERENCE, KINDS];
+
 #[test]
 fn functions_are_read_and_written(rt: HostRuntime) -> Result<(), Fail> {
-    let functions: [&[u8]; 3] = [&RETURNS, &DIFFERENCE, &KINDS];
-    each_passes(
-        rt.alloc(),
-        &functions,
-        |alloc, bytes| is_function(alloc, bytes),
-    )
+    for number in 0..FUNCTIONS.len() {
+        row_passes(number, is_function(rt.alloc(), FUNCTIONS[number]))?;
+    }
+    Ok(())
 }
 
 fn is_damaged(alloc: Global, bytes: &[u8]) -> Result<bool, Fail> {
@@ -63,14 +72,11 @@ fn is_damaged(alloc: Global, bytes: &[u8]) -> Result<bool, Fail> {
 }
 
 #[test]
-fn shorter_and_longer_bytes_are_damaged(rt: HostRuntime) -> Result<(), Fail> {
+fn shorter_bytes_are_damaged(rt: HostRuntime) -> Result<(), Fail> {
     for length in 0..DIFFERENCE.len() {
-        passes(is_damaged(rt.alloc(), &DIFFERENCE[..length]))?;
+        row_passes(length, is_damaged(rt.alloc(), &DIFFERENCE[..length]))?;
     }
-    let mut longer = Vec::from_slice(rt.alloc(), &RETURNS)?;
-    longer.push(0)?;
-    passes(is_damaged(rt.alloc(), longer.as_slice()))?;
-    passes(is_damaged(rt.alloc(), &RETURNS[..20]))
+    Ok(())
 }
 
 // Each byte of the three blocks in turn, with each value, gives either another function or none.
@@ -79,7 +85,7 @@ fn each_byte_changed(rt: HostRuntime) -> Result<(), Fail> {
     let mut functions = 0u32;
     for place in 0..DIFFERENCE.len() {
         for value in 0..=255u8 {
-            if is_changed(rt.alloc(), &DIFFERENCE, place, value)? {
+            if is_changed(rt.alloc(), DIFFERENCE, place, value)? {
                 functions = functions.saturating_add(1);
             }
         }
@@ -91,12 +97,15 @@ fn each_byte_changed(rt: HostRuntime) -> Result<(), Fail> {
 type Limit = (usize, u8, bool);
 
 fn is_limit(alloc: Global, row: &Limit) -> Result<bool, Fail> {
-    Ok(is_changed(alloc, &KINDS, row.0, row.1)? == row.2)
+    Ok(is_changed(alloc, KINDS, row.0, row.1)? == row.2)
 }
 
 #[test]
 fn limits(rt: HostRuntime) -> Result<(), Fail> {
-    each_passes(rt.alloc(), LIMITS.as_slice(), is_limit)
+    for number in 0..LIMITS.len() {
+        row_passes(number, is_limit(rt.alloc(), &LIMITS[number]))?;
+    }
+    Ok(())
 }
 
 static LIMITS: [Limit; 21] = [
@@ -138,53 +147,73 @@ fn is_with_tail(alloc: Global, row: &Tail) -> Result<bool, Fail> {
     Ok(is_function(alloc, bytes.as_slice())? == row.1)
 }
 
+// No moves come after a branch or a return, and no bytes after a function.
+static TAILS: [Tail; 6] = [
+    (b"\x00\x00\x00\x00\x00\x01\x00\x00\x07\x08", true),
+    (b"\x0a\x01\x00\x00\x07\x08", false),
+    (
+        b"\x09\x07\x00\x00\x00\x00\x00\x00\x00\x00\x01\x00\x00\x07\x08",
+        false,
+    ),
+    (b"\x09\x07\x00\x00\x00\x00\x00\x00\x00\x00\x00\x00", true),
+    // a return as it was, with a byte more and with one less
+    (b"\x0a\x00\x00\x00", false),
+    (b"\x0a\x00", false),
+];
+
 #[test]
-fn no_move_stands_behind_a_branch_or_a_return(rt: HostRuntime) -> Result<(), Fail> {
-    let table: [Tail; 4] = [
-        (b"\x00\x00\x00\x00\x00\x01\x00\x00\x07\x08", true),
-        (b"\x0a\x01\x00\x00\x07\x08", false),
-        (
-            b"\x09\x07\x00\x00\x00\x00\x00\x00\x00\x00\x01\x00\x00\x07\x08",
-            false,
-        ),
-        (b"\x09\x07\x00\x00\x00\x00\x00\x00\x00\x00\x00\x00", true),
-    ];
-    each_passes(rt.alloc(), &table, is_with_tail)
+fn ends_of_functions(rt: HostRuntime) -> Result<(), Fail> {
+    for number in 0..TAILS.len() {
+        row_passes(number, is_with_tail(rt.alloc(), &TAILS[number]))?;
+    }
+    Ok(())
 }
 
 // The bytes of a function, and its listing.
 type Listed = (&'static [u8], &'static str);
 
+static LISTED: [Listed; 2] = [
+    (
+        DIFFERENCE,
+        "slots 3, entry 0\n0: slot0 = x10; slot1 = x11; nop -> 1\n1: x7 = slot0; x8 = slot1; x7 = sub x7, x8; slot2 = x7; x9 = x7 -> 300\n300: x10 = slot2; return\n",
+    ),
+    (
+        KINDS,
+        "slots 1, entry 0\n0: nop -> 1\n1: x7 = 4294967295 -> 2\n2: x8 = complement x7 -> 3\n3: x31 = le_u x8, x7 -> 4\n4: x9 = object2[x31] -> 5\n5: object258[x9] = x8 -> 6\n6: x10 = x9; call 63; slot0 = x10 -> 7\n7: read -> 8\n8: write -> 9\n9: branch x7 -> 0, 4294967295\n4294967295: return\n",
+    ),
+];
+
 fn is_listed(alloc: Global, row: &Listed) -> Result<bool, Fail> {
-    let Ok(ltl) = read_ltl(alloc, row.0) else {
-        return Err(Fail::from("the bytes are no function"));
-    };
-    let listing = ltl.to_string(alloc)?;
-    Ok(listing.as_str() == row.1)
+    let ltl = read_ltl(alloc, row.0)?;
+    let listing = ltl.to_string(alloc);
+    drop(ltl);
+    Ok(listing?.as_str() == row.1)
 }
 
 #[test]
 fn listings(rt: HostRuntime) -> Result<(), Fail> {
-    let table: [Listed; 2] = [
-        (
-            &DIFFERENCE,
-            "slots 3, entry 0\n0: slot0 = x10; slot1 = x11; nop -> 1\n1: x7 = slot0; x8 = slot1; x7 = sub x7, x8; slot2 = x7; x9 = x7 -> 300\n300: x10 = slot2; return\n",
-        ),
-        (
-            &KINDS,
-            "slots 1, entry 0\n0: nop -> 1\n1: x7 = 4294967295 -> 2\n2: x8 = complement x7 -> 3\n3: x31 = le_u x8, x7 -> 4\n4: x9 = object2[x31] -> 5\n5: object258[x9] = x8 -> 6\n6: x10 = x9; call 63; slot0 = x10 -> 7\n7: read -> 8\n8: write -> 9\n9: branch x7 -> 0, 4294967295\n4294967295: return\n",
-        ),
-    ];
-    each_passes(rt.alloc(), &table, is_listed)
+    for number in 0..LISTED.len() {
+        row_passes(number, is_listed(rt.alloc(), &LISTED[number]))?;
+    }
+    Ok(())
 }
 
-fn is_fault(alloc: Global, fault: LtlFault, number: u32, name: &str) -> Result<bool, Fail> {
-    let shown = fault.to_string(alloc)?;
-    Ok(fault.number() == number && shown.as_str() == name)
+type Fault = (LtlFault, u32, &'static str);
+
+static FAULTS: [Fault; 2] = [
+    (LtlFault::Damaged, 37, "Damaged"),
+    (LtlFault::OutOfMemory, 40, "OutOfMemory"),
+];
+
+fn is_fault(alloc: Global, row: &Fault) -> Result<bool, Fail> {
+    let shown = row.0.to_string(alloc)?;
+    Ok(row.0.number() == row.1 && shown.as_str() == row.2)
 }
 
 #[test]
 fn faults(rt: HostRuntime) -> Result<(), Fail> {
-    passes(is_fault(rt.alloc(), LtlFault::Damaged, 37, "Damaged"))?;
-    passes(is_fault(rt.alloc(), LtlFault::OutOfMemory, 40, "OutOfMemory"))
+    for number in 0..FAULTS.len() {
+        row_passes(number, is_fault(rt.alloc(), &FAULTS[number]))?;
+    }
+    Ok(())
 }

@@ -35,7 +35,7 @@ fn is_promised(alloc: Global, disk: MemoryDisk, state: &State) -> Result<bool, F
 }
 
 // Plays the calls on a device that fails after `passes` of its own calls. The result is the place of the call with the answer 35, if
-// there is one. It is an error if a crash leaves another map than was promised.
+// there is one. It is an error if a crash leaves a map other than the promised one.
 fn failed_at<R: Threads + Wait + Copy + Send + 'static>(
     rt: &R,
     alloc: Global,

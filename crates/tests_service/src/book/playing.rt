@@ -53,7 +53,7 @@ fn command_of(alloc: Global, change: Change) -> Result<Command, Fail> {
     }
 }
 
-// Makes a call: the number of its answer, and the receipt if there is one.
+// Makes a call. The result is the number of its answer, and the receipt if there is one.
 fn made<N: Named, D: Disk>(
     alloc: Global,
     book: &mut Book<N, D>,
@@ -103,7 +103,7 @@ fn is_right<N: Named>(
         && is_reply(&entry.reply, model, call, number)
 }
 
-// The state after a call that was put into the history; none if its answer is not the model's.
+// The state after a call that was put into the history; `None` if its answer is not the model's.
 fn recorded<N: Named>(
     state: &State,
     client: &Client<N>,
@@ -141,8 +141,8 @@ fn recorded<N: Named>(
     })
 }
 
-// The state after a call that was not put into the history; none if it should have been, or is not refused as the device's
-// failures require.
+// The state after a call that was not put into the history; `None` if it should have been, or if its refusal is not the
+// one that the device's failures require.
 fn refused(state: &State, place: usize, call: Call, number: u32) -> Option<State> {
     let (compacts, looks) = match call {
         Call::Make(_) => (false, false),

@@ -37,7 +37,7 @@ pub fn each_call<N: Own, R: Wait>(rt: &R, alloc: Global, service: Fused<N>) -> R
     Ok(right && is_whole(alloc, &closed)?)
 }
 
-// Looks when there are no names, adds two, the later one first, and puts another unit in place of the other: entries 1 to 4.
+// Lists an empty map, adds `b` and then `a`, and replaces `a`: entries 1 to 4.
 fn are_changed<N: Own, R: Wait>(
     rt: &R,
     alloc: Global,
@@ -50,7 +50,7 @@ fn are_changed<N: Own, R: Wait>(
         && done_at(service.replace(rt, alloc, client, b"a", TEXTS[2])) == 4
 }
 
-// Looks at one name and at all, before and after a compaction, which is no entry: entries 5 to 7.
+// Looks at one name and at all, before and after a compaction, which makes no entry: entries 5 to 7.
 fn are_seen<N: Own, R: Wait>(
     rt: &R,
     alloc: Global,
@@ -131,8 +131,8 @@ fn are_texts_refused<N: Own, R: Wait>(
     Ok(right)
 }
 
-// What the end returns: the base, which has no name, the library with the map, and a history and receipts that the model gives
-// too.
+// Whether the end returns the base, which has no name, the library with the map, and a history and receipts with which the
+// model agrees.
 fn is_whole<D: Disk>(alloc: Global, closed: &Closed<D>) -> Result<bool, Fail> {
     let replays = match replayed(closed.history.as_slice(), closed.receipts.as_slice()) {
         Some(model) => model == AFTER,

@@ -23,7 +23,8 @@ fn sixteen_clients(rt: HostRuntime) -> Result<(), Fail> {
     succeeds(&rt, rt.alloc(), ALL, 4, NoGate, Trial::SixteenClients)
 }
 
-/// Whether the calls of all clients are in one history that the model gives too, and the library is the model's at its end.
+/// Whether the calls of all clients are in one history with which the model agrees, and the library at the end is the
+/// model's.
 pub fn are_replayed<N, R>(rt: &R, alloc: Global, service: Fused<N>) -> Result<bool, Fail>
 where
     N: Named + Send + Sync + 'static,

@@ -122,7 +122,7 @@ fn a_device_that_fails_once(rt: HostRuntime) -> Result<(), Fail> {
     Ok(())
 }
 
-// The device on which no service opens, with the fault 35.
+// The device, after opening a service on it was refused with the fault 35.
 fn not_opened<N, R>(rt: &R, alloc: Global, begun: Begun) -> Result<Device, Fail>
 where
     N: Named + Send + Sync + 'static,

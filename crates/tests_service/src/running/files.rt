@@ -1,4 +1,4 @@
-// A service on a file that is dropped without an end, and what the next one finds.
+// A service on a file, which is dropped before its end, and what the next service on the file finds.
 
 ghost use Rattle.tests_service.specs.internal.Named.{AreNamed};
 
@@ -32,7 +32,7 @@ fn a_service_that_is_let_go(rt: HostRuntime) -> Result<(), Fail> {
     Ok(())
 }
 
-// The disk on which no service opens, with the fault 38.
+// The disk, after opening a service on it was refused with the fault 38.
 fn not_a_library<N, R>(
     rt: &R,
     alloc: Global,

@@ -97,7 +97,7 @@ fn a_compaction_makes_room(rt: HostRuntime) -> Result<(), Fail> {
     Ok(())
 }
 
-// Adds units under names of their own, `n` with one letter or two, until there is no room. The result is how many were added.
+// Adds units under new names, `n` followed by one letter or two, until there is no room. The result is how many were added.
 fn fill<N, R>(rt: &R, alloc: Global, service: &Fused<N>, client: &mut Client<N>) -> u64
 where
     N: Named + Send + Sync + 'static,

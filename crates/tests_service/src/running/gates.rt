@@ -14,7 +14,7 @@ use std::thread::Threads;
 use tests_texts::lists::{alone, both};
 use tests_texts::worked::LONG;
 
-// The number of times that a gate lets other threads go on while it holds, at most.
+// While a gate holds, it lets other threads go on at most this many times.
 const TURNS: u64 = 20_000_000;
 
 /// What a gate and its test report to each other.

@@ -47,7 +47,7 @@ fn is_out(number: u32) -> bool {
 }
 
 // Adds one unit twice. A first call that is refused with 40 or 41 must be as if it had not been made. The result is how many
-// entries there are, or none if an answer was not as it should be.
+// entries there are, or `None` if an answer was not as it should be.
 fn adds_twice<N: Own, R: Wait>(
     rt: &R,
     alloc: Global,

@@ -85,7 +85,7 @@ where
     Service::open(rt, alloc, fresh, device, workers, gate)
 }
 
-/// The service that an opening gives.
+/// The service that an opening returns.
 pub fn opened<N: Named, D: Disk + Drop>(
     answer: Result<Service<N, D>, (ServiceFault, D)>,
 ) -> Result<Service<N, D>, Fail> {
@@ -104,7 +104,7 @@ pub fn opened<N: Named, D: Disk + Drop>(
     }
 }
 
-/// Adds the small text under a name: the client after that, and the number of the answer.
+/// Adds the small text under a name. The result is the client afterwards, and the number of the answer.
 pub fn adds<N, R>(
     rt: &R,
     alloc: Global,

@@ -2,7 +2,7 @@
 
 ghost use Rattle.std.specs.Prelude.{◌≡◌, None, IfOk};
 
-use cc_disk::{Disk, MemoryDisk};
+use cc_disk::{Disk, FuseDisk, FuseMode, MemoryDisk};
 use cc_journal::format;
 use cc_library::{Edit, Library, LibraryCommand, LibraryFault, Name, SharedUnit};
 use cc_rv32::image::{Code, Globals, Image};
@@ -11,7 +11,7 @@ use std::alloc::Global;
 use std::sync::Arc;
 use std::test::Fail;
 
-/// A step on a library: a change of the name of one letter, with the unit of one word; or a compaction of its journal.
+/// A step on a library: a change of a one-letter name, with the unit of one word, or a compaction.
 #[derive(Clone, Copy)]
 pub enum Step {
     Add(u8, u32),
@@ -20,7 +20,7 @@ pub enum Step {
     Compact,
 }
 
-/// The unit of that source, with this one code word, no globals and no certificate.
+/// The unit with this source, this one code word, no globals and no certificate.
 pub fn unit(alloc: Global, source: &[u8], word: u32) -> Result<StoredUnit, Fail>
     ensures { IfOk result (λ unit. unit.certificate ≡ None) }
 {
@@ -40,9 +40,18 @@ pub fn unit(alloc: Global, source: &[u8], word: u32) -> Result<StoredUnit, Fail>
     })
 }
 
-/// The unit of that word, without source.
+/// The unit of this code word, with an empty source.
 pub fn word_unit(alloc: Global, word: u32) -> Result<Arc<StoredUnit>, Fail> {
     Ok(Arc::new(alloc, unit(alloc, &[], word)?)?)
+}
+
+/// Whether a unit has that certificate.
+pub fn has_certificate(unit: &StoredUnit, wanted: Option<&[u8]>) -> bool {
+    match (&unit.certificate, wanted) {
+        (None, None) => true,
+        (Some(certificate), Some(bytes)) => certificate.bytes() == bytes,
+        _ => false,
+    }
 }
 
 /// The name that consists of this letter.
@@ -50,7 +59,7 @@ pub fn name(letter: u8) -> Result<Name, Fail> {
     Ok(Name::new(&[letter])?)
 }
 
-/// The next byte of numbers that look random, the same in each run.
+/// The next byte of a sequence that looks random but is the same in each run.
 pub fn next_byte(state: &mut u64) -> u8 {
     *state = state
         .wrapping_mul(6_364_136_223_846_793_005)
@@ -151,6 +160,19 @@ pub fn opened<D: Disk + Drop>(alloc: Global, disk: D) -> Result<Library<D>, Fail
     }
 }
 
+/// A library with `a` added, on a disk of 144 bytes whose calls, those of opening first, meet a fuse once this many have passed.
+pub fn with_a(
+    alloc: Global,
+    passes: u64,
+    mode: FuseMode,
+) -> Result<Library<FuseDisk<MemoryDisk>>, Fail> {
+    let mut library = opened(alloc, formatted(alloc, 64)?)?;
+    if does(alloc, &mut library, Step::Add(b'a', 1))? != 0 {
+        return Err(Fail::from("not added"));
+    }
+    opened(alloc, FuseDisk::new(library.into_disk(), passes, mode))
+}
+
 /// The first code word of the unit under that name, if there is one.
 fn word_of<D: Disk>(library: &Library<D>, letter: u8) -> Result<Option<u32>, Fail> {
     Ok(
@@ -160,7 +182,7 @@ fn word_of<D: Disk>(library: &Library<D>, letter: u8) -> Result<Option<u32>, Fai
     )
 }
 
-/// What a library holds under `a` and under `b`: the words of the units, if there are any.
+/// What a library holds under `a` and under `b`: the code word of each unit, if there is one.
 pub type Held = (Option<u32>, Option<u32>);
 
 /// Whether the library holds these units, and no others.
@@ -178,7 +200,7 @@ pub fn recovers<D: Disk + Drop>(alloc: Global, disk: D, wanted: Held) -> Result<
     holds(alloc, &opened(alloc, disk)?, wanted)
 }
 
-/// Whether a crash with that choice leaves a library that holds these units.
+/// Whether a crash with this choice leaves a library that holds these units.
 pub fn crash_leaves(
     alloc: Global,
     disk: &MemoryDisk,
@@ -188,7 +210,7 @@ pub fn crash_leaves(
     recovers(alloc, disk.crash(alloc, choice)?, wanted)
 }
 
-/// The number of the fault with which the disk is refused, or 0.
+/// The number of the fault with which the disk is refused, or 0 if it is opened.
 pub fn refusal<D: Disk + Drop>(alloc: Global, disk: D) -> u32 {
     match Library::open(alloc, disk) {
         Ok(_) => 0,

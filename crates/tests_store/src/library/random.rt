@@ -6,9 +6,9 @@ use cc_disk::MemoryDisk;
 use cc_library::Library;
 use std::alloc::Global;
 use std::test::Fail;
-use tests_texts::verdict::passes;
+use tests_texts::verdict::row_passes;
 
-// A command on `a` or `b`, with the byte of its kind, and the word of its unit.
+// A command on `a` or `b`, with the byte of its kind and the code word of its unit.
 #[derive(Clone, Copy)]
 struct Random {
     kind: u8,
@@ -59,7 +59,7 @@ fn after(held: Held, command: Random) -> Option<Held> {
 
 const AREA: u32 = 256;
 
-// The bytes of a disk with up to seven random records, and what the library has to hold: nothing if a command is refused.
+// The bytes of a disk with up to seven random records, and what the library must hold, or `None` if a command is refused.
 fn random_records(alloc: Global, state: &mut u64) -> Result<(Vec<u8>, Option<Held>), Fail> {
     let mut bytes = bytes_of(alloc, &mut formatted(alloc, AREA)?)?;
     let size = bytes.len();
@@ -78,7 +78,7 @@ fn random_records(alloc: Global, state: &mut u64) -> Result<(Vec<u8>, Option<Hel
     Ok((bytes, held))
 }
 
-// Whether the next such disk holds what its records fold to, or is refused.
+// Whether the next disk of random records holds the map that its commands lead to, or is refused if a command is refused.
 fn is_fold(alloc: Global, state: &mut u64) -> Result<bool, Fail> {
     let (bytes, held) = random_records(alloc, state)?;
     let disk = disk_of(alloc, &bytes)?;
@@ -91,14 +91,14 @@ fn is_fold(alloc: Global, state: &mut u64) -> Result<bool, Fail> {
 #[test]
 fn random_records_stand_for_their_fold(rt: HostRuntime) -> Result<(), Fail> {
     let mut state = 1u64;
-    for _ in 0..10_000u32 {
-        passes(is_fold(rt.alloc(), &mut state))?;
+    for number in 0..10_000usize {
+        row_passes(number, is_fold(rt.alloc(), &mut state))?;
     }
     Ok(())
 }
 
-// Whether such a disk with up to four random bytes is refused with 37 or 38, or is opened, and has the same names after it is
-// compacted and opened again.
+// Whether a disk of random records, with up to four of its bytes made random, is refused with 37 or 38, or is opened and has
+// the same names after it is compacted and opened again.
 fn is_opened_or_refused(alloc: Global, state: &mut u64) -> Result<bool, Fail> {
     let (mut bytes, _) = random_records(alloc, state)?;
     for _ in 0..1 + next_byte(state) % 4 {
@@ -117,7 +117,7 @@ fn is_opened_or_refused(alloc: Global, state: &mut u64) -> Result<bool, Fail> {
 // Whether a library that is compacted and opened again has the same names.
 fn keeps_its_names(alloc: Global, mut library: Library<MemoryDisk>) -> Result<bool, Fail> {
     let names = library.list(alloc)?;
-    // All records fit in an area, so fewer do too.
+    // All the records fit in an area, so the compacted records fit too.
     library.compact(alloc)?;
     let found = opened(alloc, library.into_disk())?.list(alloc)?;
     Ok(found.as_slice() == names.as_slice())
@@ -126,8 +126,8 @@ fn keeps_its_names(alloc: Global, mut library: Library<MemoryDisk>) -> Result<bo
 #[test]
 fn random_bytes_are_opened_or_refused(rt: HostRuntime) -> Result<(), Fail> {
     let mut state = 2u64;
-    for _ in 0..10_000u32 {
-        passes(is_opened_or_refused(rt.alloc(), &mut state))?;
+    for number in 0..10_000usize {
+        row_passes(number, is_opened_or_refused(rt.alloc(), &mut state))?;
     }
     Ok(())
 }

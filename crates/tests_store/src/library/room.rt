@@ -1,199 +1,219 @@
-// What a `compact` makes room for. A unit of one word without a source takes 25 bytes under a name of one letter.
+// What a `compact` makes room for. The record of a unit of one word with an empty source, under a name of one letter, takes 25
+// bytes.
 
-use crate::library::helpers::{Step, answers, formatted, name, number, opened, steps_done, unit};
-use cc_disk::{Disk, FuseDisk, FuseMode};
+use crate::library::helpers::{Step, does, formatted, name, number, opened, unit};
+use cc_disk::{FuseDisk, FuseMode, MemoryDisk};
 use cc_library::{Library, LibraryCommand, SharedUnit};
 use std::alloc::Global;
 use std::sync::Arc;
 use std::test::Fail;
-use tests_texts::verdict::{each_passes, passes};
+use tests_texts::verdict::row_passes;
 
 // An area of 101 bytes has room for these four records and the closed gate. After compaction there are two records.
-const FOUR: [Step; 4] = [
-    Step::Add(b'a', 1),
-    Step::Add(b'b', 2),
-    Step::Replace(b'a', 3),
-    Step::Replace(b'b', 4),
-];
+const A: Act = Act::Does(Step::Add(b'a', 1), 0);
+
+const B: Act = Act::Does(Step::Add(b'b', 2), 0);
+
+const A_AGAIN: Act = Act::Does(Step::Replace(b'a', 3), 0);
+
+const B_AGAIN: Act = Act::Does(Step::Replace(b'b', 4), 0);
 
 const AREA: u32 = 101;
 
-// The device calls of opening an empty library, and of the four changes.
+// How many device calls opening an empty library and the four changes make.
 const CALLS: u64 = 3 + 4 * 4;
 
-fn full<D: Disk + Drop>(alloc: Global, disk: D) -> Result<Library<D>, Fail> {
-    let mut library = opened(alloc, disk)?;
-    if steps_done(alloc, &mut library, &FOUR)? == 4 {
-        Ok(library)
-    } else {
-        Err(Fail::from("not full"))
-    }
+// A command on the name of one letter, with a unit of this many bytes of source, which its record has besides 25 others.
+#[derive(Clone, Copy)]
+enum Command {
+    Add(u8, usize),
+    Replace(u8, usize),
+    Withdraw(u8),
 }
 
-// A unit with this many bytes of source, which its record has besides 25 others.
+// What is done to a library.
+#[derive(Clone, Copy)]
+enum Act {
+    // A step is made, and answered with this number.
+    Does(Step, u32),
+    // Whether the command has room once the library is compacted, and whether a `compact` would remove the reason for its refusal.
+    Looks(Command, bool, bool),
+    // The command is answered with this number.
+    Changes(Command, u32),
+    // The library takes this many bytes of its area, would take the second number after a compaction, and has this many units.
+    Takes(usize, usize, usize),
+}
+
+use Act::{Changes, Does, Looks, Takes};
+
+const LEAST: Command = Command::Add(b'c', 0);
+
+const MOST: Command = Command::Add(b'c', 25);
+
+// What is done to a new library.
+static ROWS: [&[Act]; 5] = [
+    // the old unit stays until its successor is there: there is room for 25 bytes of source after two records, not for 50 in place
+    // of one
+    &[
+        A,
+        B,
+        A_AGAIN,
+        B_AGAIN,
+        Looks(Command::Replace(b'a', 25), true, true),
+        Looks(Command::Replace(b'a', 26), false, false),
+        Looks(Command::Replace(b'a', 50), false, false),
+    ],
+    // a withdrawal
+    &[
+        A,
+        B,
+        A_AGAIN,
+        B_AGAIN,
+        Looks(Command::Withdraw(b'a'), true, true),
+        Does(Step::Withdraw(b'a'), 34),
+        Does(Step::Compact, 0),
+        Does(Step::Withdraw(b'a'), 0),
+    ],
+    // 31 and 32 come before 34
+    &[
+        A,
+        B,
+        A_AGAIN,
+        B_AGAIN,
+        Looks(Command::Add(b'a', 0), true, false),
+        Looks(Command::Replace(b'c', 0), true, false),
+        Looks(Command::Withdraw(b'c'), true, false),
+    ],
+    // a library that has room refuses nothing with 34
+    &[Looks(LEAST, true, false)],
+    // how much is taken: the record of a withdrawal takes 5 bytes and 4 more, version, kind, and the name with its length
+    &[
+        Takes(0, 0, 0),
+        A,
+        Takes(25, 25, 1),
+        B,
+        A_AGAIN,
+        B_AGAIN,
+        Takes(100, 50, 2),
+        Does(Step::Compact, 0),
+        Takes(50, 50, 2),
+        Does(Step::Withdraw(b'a'), 0),
+        Takes(59, 25, 1),
+    ],
+];
+
+// A closed library answers 36. Until then no look has called the device: the call that fails is the first after the changes.
+static CLOSED: [Act; 8] = [
+    A,
+    B,
+    A_AGAIN,
+    B_AGAIN,
+    Looks(MOST, true, true),
+    Does(Step::Compact, 35),
+    Looks(MOST, true, false),
+    Does(Step::Add(b'c', 5), 36),
+];
+
+// A unit with this many bytes of source.
 fn sized(alloc: Global, count: usize) -> Result<SharedUnit, Fail> {
     let source = vec![in alloc; b' '; count]?;
     Ok(SharedUnit::new(Arc::new(alloc, unit(alloc, &source, 5)?)?))
 }
 
-// Whether a command has room once a library is compacted, and whether a `compact` would remove the reason for its refusal.
-fn looks<D: Disk>(library: &Library<D>, command: &LibraryCommand) -> (bool, bool) {
-    (
-        library.has_room_compacted(command),
-        library.is_mended_by_compact(command),
-    )
-}
-
-// The command that adds `c` with this many bytes of source.
-fn added(alloc: Global, count: usize) -> Result<LibraryCommand, Fail> {
-    let unit = sized(alloc, count)?;
-    Ok(LibraryCommand::Add(name(b'c')?, unit))
-}
-
-// The number of bytes of a source, and whether the unit fits.
-type Row = (usize, bool);
-
-// Whether a full library answers such an Add as it has to, before it is compacted and after that.
-fn is_right(alloc: Global, row: &Row) -> Result<bool, Fail> {
-    let (count, fits) = *row;
-    let first = added(alloc, count)?;
-    let second = first.again()?;
-    let mut library = full(alloc, formatted(alloc, AREA)?)?;
-    let before = looks(&library, &first) == (fits, fits)
-        && number(library.change(alloc, first)) == 34
-        && number(library.compact(alloc)) == 0;
-    let wanted = if fits { 0 } else { 34 };
-    Ok(
-        before
-            && looks(&library, &second) == (fits, false)
-            && number(library.change(alloc, second)) == wanted,
-    )
-}
-
-// Two records take 50 bytes, and a third has 51 with its closed gate, so at most 25 bytes of source fit.
-#[test]
-fn up_to_the_last_byte(rt: HostRuntime) -> Result<(), Fail> {
-    for count in 0..60 {
-        passes(is_right(rt.alloc(), &(count, count <= 25)))?;
-    }
-    Ok(())
-}
-
-// Whether a `compact` removes the reason for which a full library refuses a Replace, or does not.
-fn is_replaced(alloc: Global, row: &Row) -> Result<bool, Fail> {
-    let unit = sized(alloc, row.0)?;
-    let command = LibraryCommand::Replace(name(b'a')?, unit);
-    let library = full(alloc, formatted(alloc, AREA)?)?;
-    Ok(library.is_mended_by_compact(&command) == row.1)
-}
-
-// The old unit stays until its successor is there: there is room for 25 bytes of source after two records, not for 50 in place of
-// one.
-#[test]
-fn a_replace_needs_room_beside_the_old_unit(rt: HostRuntime) -> Result<(), Fail> {
-    each_passes(
-        rt.alloc(),
-        &[(25, true), (26, false), (50, false)],
-        is_replaced,
-    )
-}
-
-fn is_withdrawn(alloc: Global) -> Result<bool, Fail> {
-    let mut library = full(alloc, formatted(alloc, AREA)?)?;
-    let is_mended = library.is_mended_by_compact(&LibraryCommand::Withdraw(name(b'a')?));
-    let steps = [
-        (Step::Withdraw(b'a'), 34),
-        (Step::Compact, 0),
-        (Step::Withdraw(b'a'), 0),
-    ];
-    Ok(is_mended && answers(alloc, &mut library, &steps)?)
-}
-
-#[test]
-fn a_withdrawal(rt: HostRuntime) -> Result<(), Fail> {
-    passes(is_withdrawn(rt.alloc()))
-}
-
-// Whether an Add of `a`, a Replace of `c` and a Withdraw of `c` have room in a full library as it is.
-fn have_room(alloc: Global) -> Result<bool, Fail> {
-    let add = LibraryCommand::Add(name(b'a')?, sized(alloc, 0)?);
-    let replace = LibraryCommand::Replace(name(b'c')?, sized(alloc, 0)?);
-    let withdraw = LibraryCommand::Withdraw(name(b'c')?);
-    let library = full(alloc, formatted(alloc, AREA)?)?;
-    Ok(
-        looks(&library, &add) == (true, false)
-            && looks(&library, &replace) == (true, false)
-            && looks(&library, &withdraw) == (true, false),
-    )
-}
-
-// 31 and 32 come before 34.
-#[test]
-fn what_is_not_refused_by_34(rt: HostRuntime) -> Result<(), Fail> {
-    passes(have_room(rt.alloc()))
-}
-
-fn has_room_empty(alloc: Global) -> Result<bool, Fail> {
-    let command = added(alloc, 0)?;
-    let library = opened(alloc, formatted(alloc, AREA)?)?;
-    Ok(looks(&library, &command) == (true, false))
-}
-
-// A library that has room refuses nothing with 34.
-#[test]
-fn an_empty_library(rt: HostRuntime) -> Result<(), Fail> {
-    passes(has_room_empty(rt.alloc()))
-}
-
-// Whether a thousand looks at a full library each say that a `compact` would help.
-fn stays_mended<D: Disk>(library: &Library<D>, command: &LibraryCommand) -> bool {
-    for _ in 0..1000 {
-        if !library.is_mended_by_compact(command) {
-            return false;
+fn command_of(alloc: Global, command: Command) -> Result<LibraryCommand, Fail> {
+    match command {
+        Command::Add(letter, count) => {
+            let unit = sized(alloc, count)?;
+            Ok(LibraryCommand::Add(name(letter)?, unit))
         }
+        Command::Replace(letter, count) => {
+            let unit = sized(alloc, count)?;
+            Ok(LibraryCommand::Replace(name(letter)?, unit))
+        }
+        Command::Withdraw(letter) => Ok(LibraryCommand::Withdraw(name(letter)?)),
     }
-    true
 }
 
-// Whether a library is closed by the first device call after the changes, and a look says what it should before that and after
-// it.
-fn is_closed(alloc: Global) -> Result<bool, Fail> {
-    let command = added(alloc, 25)?;
-    let disk = FuseDisk::new(formatted(alloc, AREA)?, CALLS, FuseMode::Once);
-    let mut library = full(alloc, disk)?;
-    Ok(
-        stays_mended(&library, &command)
-            && answers(alloc, &mut library, &[(Step::Compact, 35)])?
-            && looks(&library, &command) == (true, false)
-            && answers(alloc, &mut library, &[(Step::Add(b'c', 5), 36)])?,
-    )
+type FusedLibrary = Library<FuseDisk<MemoryDisk>>;
+
+// Whether a thousand looks at a library give these answers.
+fn are_looks(
+    library: &FusedLibrary,
+    command: &LibraryCommand,
+    has_room: bool,
+    is_mended: bool,
+) -> bool {
+    let mut right = library.has_room_compacted(command) == has_room;
+    for _ in 0..1000 {
+        right = right && library.is_mended_by_compact(command) == is_mended;
+    }
+    right
 }
 
-// A closed library answers 36. Until then no look has called the device: the call that fails is the first after the changes.
-#[test]
-fn a_closed_library(rt: HostRuntime) -> Result<(), Fail> {
-    passes(is_closed(rt.alloc()))
-}
-
-// Whether a library takes `used` bytes of its area, would take `compacted` bytes after a compaction, and has this many units.
-fn takes<D: Disk>(library: &Library<D>, used: usize, compacted: usize, units: usize) -> bool {
+fn is_taken(library: &FusedLibrary, used: usize, compacted: usize, units: usize) -> bool {
     let space = library.space();
     (space.area, space.used) == (AREA as usize, used)
         && (space.compacted, space.units) == (compacted, units)
 }
 
-fn is_measured(alloc: Global) -> Result<bool, Fail> {
-    let mut library = opened(alloc, formatted(alloc, AREA)?)?;
-    let empty = takes(&library, 0, 0, 0);
-    let one = steps_done(alloc, &mut library, &FOUR[..1])? == 1 && takes(&library, 25, 25, 1);
-    let four = steps_done(alloc, &mut library, &FOUR[1..])? == 3 && takes(&library, 100, 50, 2);
-    let compacted = number(library.compact(alloc)) == 0 && takes(&library, 50, 50, 2);
-    let withdrawn = number(library.withdraw(alloc, name(b'a')?)) == 0;
-    Ok(empty && one && four && compacted && withdrawn && takes(&library, 59, 25, 1))
+// Whether an act comes out as it has to.
+fn is_done(alloc: Global, library: &mut FusedLibrary, act: Act) -> Result<bool, Fail> {
+    match act {
+        Does(step, wanted) => Ok(does(alloc, library, step)? == wanted),
+        Looks(command, has_room, is_mended) => {
+            let command = command_of(alloc, command)?;
+            Ok(are_looks(library, &command, has_room, is_mended))
+        }
+        Changes(command, wanted) => {
+            let command = command_of(alloc, command)?;
+            Ok(number(library.change(alloc, command)) == wanted)
+        }
+        Takes(used, compacted, units) => Ok(is_taken(library, used, compacted, units)),
+    }
 }
 
-// The record of a withdrawal takes 5 bytes and 4 more: version, kind, and the name with its length.
+// Whether these acts on a new library come out as they have to, if the call after this many fails.
+fn are_done(alloc: Global, calls: u64, acts: &[Act]) -> Result<bool, Fail> {
+    let disk = FuseDisk::new(formatted(alloc, AREA)?, calls, FuseMode::Once);
+    let mut library = opened(alloc, disk)?;
+    let mut right = true;
+    for act in acts {
+        right = right && is_done(alloc, &mut library, *act)?;
+    }
+    Ok(right)
+}
+
+// Whether a full library answers an Add with this many bytes of source as it has to, before it is compacted and after that. Two
+// records take 50 bytes, and a third has 51 with its closed gate, so at most 25 bytes of source fit.
+fn is_added(alloc: Global, count: usize) -> Result<bool, Fail> {
+    let added = Command::Add(b'c', count);
+    let fits = count <= 25;
+    let acts = [
+        A,
+        B,
+        A_AGAIN,
+        B_AGAIN,
+        Looks(added, fits, fits),
+        Changes(added, 34),
+        Does(Step::Compact, 0),
+        Looks(added, fits, false),
+        Changes(added, if fits { 0 } else { 34 }),
+    ];
+    are_done(alloc, u64::MAX, &acts)
+}
+
 #[test]
-fn how_much_is_taken(rt: HostRuntime) -> Result<(), Fail> {
-    passes(is_measured(rt.alloc()))
+fn up_to_the_last_byte(rt: HostRuntime) -> Result<(), Fail> {
+    for count in 0..60usize {
+        row_passes(count, is_added(rt.alloc(), count))?;
+    }
+    Ok(())
+}
+
+#[test]
+fn room_and_what_is_taken(rt: HostRuntime) -> Result<(), Fail> {
+    for number in 0..ROWS.len() {
+        row_passes(number, are_done(rt.alloc(), u64::MAX, ROWS[number]))?;
+    }
+    row_passes(ROWS.len(), are_done(rt.alloc(), CALLS, CLOSED.as_slice()))
 }

@@ -2,54 +2,102 @@
 
 use crate::helpers::has_parts;
 use crate::library::helpers::{
-    Held, Step, answers, crash_leaves, does, edits, formatted, holds, opened, recovers, steps_done,
+    Held, Step, answers, crash_leaves, does, edits, formatted, holds, opened, recovers, with_a,
     word_unit,
 };
 use cc_disk::{Disk, FuseDisk, FuseMode, MemoryDisk};
 use cc_library::{Library, Name};
 use std::alloc::Global;
 use std::test::Fail;
-use tests_texts::verdict::{each_passes, passes};
+use tests_texts::verdict::{passes, row_passes};
 
-// The device calls of opening a library with one record: a sync, the header, and the records, which are read ahead.
+// How many device calls opening a library with one record makes: a sync, a read of the header, and a read ahead of the
+// records.
 const OPENING: u64 = 3;
 
-// Whether these steps on a new library with areas of this many bytes are answered with these numbers, and its disk then holds
-// these units.
-fn are_answered(
-    alloc: Global,
-    area: u32,
-    steps: &[(Step, u32)],
-    wanted: Held,
-) -> Result<bool, Fail> {
+// The size of an area, steps with their numbers on a new library, what its disk then holds, and parts of the disk.
+type Row = (
+    u32,
+    &'static [(Step, u32)],
+    Held,
+    &'static [(usize, &'static [u8])],
+);
+
+static ROWS: [Row; 3] = [
+    (
+        128,
+        &[
+            (Step::Add(b'a', 1), 0),
+            (Step::Add(b'a', 2), 31),
+            (Step::Withdraw(b'b'), 32),
+            (Step::Replace(b'a', 3), 0),
+        ],
+        (Some(3), None),
+        &[],
+    ),
+    // a full area: two records of 25 bytes and the closed gate leave 13 bytes: one Withdraw of 9 fits, a third unit does not
+    (
+        64,
+        &[
+            (Step::Add(b'a', 1), 0),
+            (Step::Add(b'b', 2), 0),
+            (Step::Add(b'c', 3), 34),
+            (Step::Replace(b'a', 3), 34),
+            (Step::Withdraw(b'a'), 0),
+            (Step::Withdraw(b'b'), 34),
+        ],
+        (None, Some(2)),
+        &[],
+    ),
+    // `compact` writes one Add per name: area B begins at 144, with an Add of `a` and one of `b`, each of 25 bytes, and a closed gate
+    (
+        128,
+        &[
+            (Step::Add(b'b', 2), 0),
+            (Step::Add(b'a', 1), 0),
+            (Step::Withdraw(b'b'), 0),
+            (Step::Add(b'b', 4), 0),
+            (Step::Compact, 0),
+        ],
+        (Some(1), Some(4)),
+        &[
+            (0, &[1]),
+            (144, &[0xa5]),
+            (149, &[1]),
+            (150, &[1]),
+            (152, b"a"),
+            (169, &[0xa5]),
+            (175, &[1]),
+            (177, b"b"),
+            (194, &[0]),
+        ],
+    ),
+];
+
+// The disk of a new library after these steps, once they were answered with these numbers.
+fn played(alloc: Global, area: u32, steps: &[(Step, u32)]) -> Result<MemoryDisk, Fail> {
     let mut library = opened(alloc, formatted(alloc, area)?)?;
-    Ok(answers(alloc, &mut library, steps)? && recovers(alloc, library.into_disk(), wanted)?)
+    if answers(alloc, &mut library, steps)? {
+        Ok(library.into_disk())
+    } else {
+        Err(Fail::from("a step was answered otherwise"))
+    }
 }
 
-#[test]
-fn changes(rt: HostRuntime) -> Result<(), Fail> {
-    let steps = [
-        (Step::Add(b'a', 1), 0),
-        (Step::Add(b'a', 2), 31),
-        (Step::Withdraw(b'b'), 32),
-        (Step::Replace(b'a', 3), 0),
-    ];
-    passes(are_answered(rt.alloc(), 128, &steps, (Some(3), None)))
+fn is_right(alloc: Global, row: &Row) -> Result<bool, Fail> {
+    let mut disk = played(alloc, row.0, row.1)?;
+    let right = has_parts(alloc, &mut disk, row.3)?;
+    Ok(right && recovers(alloc, disk, row.2)?)
 }
 
-#[test]
-fn a_full_area(rt: HostRuntime) -> Result<(), Fail> {
-    // Two records of 25 bytes and the closed gate leave 13 bytes: one Withdraw of 9 fits, a third unit does not.
-    let steps = [
-        (Step::Add(b'a', 1), 0),
-        (Step::Add(b'b', 2), 0),
-        (Step::Add(b'c', 3), 34),
-        (Step::Replace(b'a', 3), 34),
-        (Step::Withdraw(b'a'), 0),
-        (Step::Withdraw(b'b'), 34),
-    ];
-    passes(are_answered(rt.alloc(), 64, &steps, (None, Some(2))))
-}
+// Steps that a run makes on a new library, and the numbers that it gives.
+static RUN: [Step; 5] = [
+    Step::Add(b'a', 1),
+    Step::Add(b'a', 2),
+    Step::Withdraw(b'b'),
+    Step::Replace(b'a', 3),
+    Step::Compact,
+];
 
 // Whether a run of steps on a new library reaches its end, with these numbers.
 fn runs(alloc: Global, steps: &[Step], wanted: &[u32]) -> Result<bool, Fail> {
@@ -68,18 +116,6 @@ fn runs(alloc: Global, steps: &[Step], wanted: &[u32]) -> Result<bool, Fail> {
     }
 }
 
-#[test]
-fn the_same_through_run(rt: HostRuntime) -> Result<(), Fail> {
-    let steps = [
-        Step::Add(b'a', 1),
-        Step::Add(b'a', 2),
-        Step::Withdraw(b'b'),
-        Step::Replace(b'a', 3),
-        Step::Compact,
-    ];
-    passes(runs(rt.alloc(), &steps, &[0, 31, 32, 0, 0]))
-}
-
 // Whether `names` are the wanted ones, in order.
 fn are_names(names: &[Name], wanted: &[&[u8]]) -> bool {
     names.len() == wanted.len()
@@ -89,7 +125,7 @@ fn are_names(names: &[Name], wanted: &[&[u8]]) -> bool {
             .all(|(name, bytes)| name.bytes() == *bytes)
 }
 
-// Adds a unit under that name. The result is whether the answer is Ok.
+// Adds a unit under this name. The result is whether the answer is Ok.
 fn is_added<D: Disk>(alloc: Global, library: &mut Library<D>, name: &[u8]) -> Result<bool, Fail> {
     let unit = word_unit(alloc, 0)?;
     Ok(library.add(alloc, Name::new(name)?, unit).is_ok())
@@ -106,85 +142,65 @@ fn lists(alloc: Global, names: &[&[u8]], wanted: &[&[u8]]) -> Result<bool, Fail>
 }
 
 #[test]
-fn names_come_in_the_order_of_their_bytes(rt: HostRuntime) -> Result<(), Fail> {
-    passes(lists(
-        rt.alloc(),
-        &[b"b", b"a", b"ab", b"a_"],
-        &[b"a", b"a_", b"ab", b"b"],
-    ))
-}
-
-// A library with `a` added, on a disk of 144 bytes whose next calls meet a fuse.
-fn with_a(alloc: Global, passes: u64) -> Result<Library<FuseDisk<MemoryDisk>>, Fail> {
-    let mut library = opened(alloc, formatted(alloc, 64)?)?;
-    if steps_done(alloc, &mut library, &[Step::Add(b'a', 1)])? != 1 {
-        return Err(Fail::from("not added"));
+fn worked_rows(rt: HostRuntime) -> Result<(), Fail> {
+    let alloc = rt.alloc();
+    for number in 0..ROWS.len() {
+        row_passes(number, is_right(alloc, &ROWS[number]))?;
     }
-    opened(
-        alloc,
-        FuseDisk::new(library.into_disk(), passes, FuseMode::Within),
-    )
+    row_passes(3, runs(alloc, RUN.as_slice(), &[0, 31, 32, 0, 0]))?;
+    // names come in the order of their bytes
+    let names: [&[u8]; 4] = [b"b", b"a", b"ab", b"a_"];
+    row_passes(4, lists(alloc, &names, &[b"a", b"a_", b"ab", b"b"]))
 }
 
-// The disk after an Add of `b` whose device calls meet the fuse once this many have passed, and a crash with that choice.
+// The disk after an Add of `b` that meets the fuse once this many of its device calls have passed, and a crash with this
+// choice.
 fn torn(alloc: Global, passes: u64, choice: &[u8]) -> Result<MemoryDisk, Fail> {
-    let mut library = with_a(alloc, OPENING.saturating_add(passes))?;
+    let mut library = with_a(alloc, OPENING.saturating_add(passes), FuseMode::Within)?;
     if does(alloc, &mut library, Step::Add(b'b', 2))? != 35 {
         return Err(Fail::from("the fuse was not met"));
     }
     Ok(library.into_disk().into_disk().crash(alloc, choice)?)
 }
 
-// Whether these units are left by a crash before the gate is settled, if it leaves this byte wherever it may leave anything.
-fn is_decided(alloc: Global, row: &(u8, Held)) -> Result<bool, Fail> {
-    recovers(alloc, torn(alloc, 2, &[row.0; 144])?, row.1)
+// The calls that pass, what a crash leaves wherever it may leave anything, and the units that are then held.
+type Cut = (u64, &'static [u8], Held);
+
+static CUTS: [Cut; 3] = [
+    // the gate decides, before it is settled
+    (2, &[0xa5; 144], (Some(1), Some(2))),
+    (2, &[0; 144], (Some(1), None)),
+    // a torn body counts for nothing: the record of `a` ends with byte 40, the gate of the next is byte 41; after it the crash leaves a
+    // whole record, Withdraw of `a`, and an open gate
+    (0, WITHDRAWN, (Some(1), None)),
+];
+
+const WITHDRAWN: &[u8] = &[
+    0xa5, 0xa5, 0xa5, 0xa5, 0xa5, 0xa5, 0xa5, 0xa5, 0xa5, 0xa5, 0xa5, 0xa5, 0xa5, 0xa5, 0xa5, 0xa5,
+    0xa5, 0xa5, 0xa5, 0xa5, 0xa5, 0xa5, 0xa5, 0xa5, 0xa5, 0xa5, 0xa5, 0xa5, 0xa5, 0xa5, 0xa5, 0xa5,
+    0xa5, 0xa5, 0xa5, 0xa5, 0xa5, 0xa5, 0xa5, 0xa5, 0xa5, 0xa5, 4, 0, 0, 0, 1, 3, 1, b'a', 0xa5,
+    0xa5, 0xa5, 0xa5, 0xa5, 0xa5, 0xa5, 0xa5, 0xa5, 0xa5, 0xa5, 0xa5, 0xa5, 0xa5, 0xa5, 0xa5, 0xa5,
+    0xa5, 0xa5, 0xa5, 0xa5, 0xa5, 0xa5, 0xa5, 0xa5, 0xa5, 0xa5, 0xa5, 0xa5, 0xa5, 0xa5, 0xa5, 0xa5,
+    0xa5, 0xa5, 0xa5, 0xa5, 0xa5, 0xa5, 0xa5, 0xa5, 0xa5, 0xa5, 0xa5, 0xa5, 0xa5, 0xa5, 0xa5, 0xa5,
+    0xa5, 0xa5, 0xa5, 0xa5, 0xa5, 0xa5, 0xa5, 0xa5, 0xa5, 0xa5, 0xa5, 0xa5, 0xa5, 0xa5, 0xa5, 0xa5,
+    0xa5, 0xa5, 0xa5, 0xa5, 0xa5, 0xa5, 0xa5, 0xa5, 0xa5, 0xa5, 0xa5, 0xa5, 0xa5, 0xa5, 0xa5, 0xa5,
+    0xa5, 0xa5, 0xa5, 0xa5, 0xa5, 0xa5, 0xa5, 0xa5, 0xa5, 0xa5, 0xa5, 0xa5, 0xa5,
+];
+
+fn is_torn(alloc: Global, row: &Cut) -> Result<bool, Fail> {
+    recovers(alloc, torn(alloc, row.0, row.1)?, row.2)
 }
 
-#[test]
-fn the_gate_decides(rt: HostRuntime) -> Result<(), Fail> {
-    let rows = [(0xa5, (Some(1), Some(2))), (0, (Some(1), None))];
-    each_passes(rt.alloc(), &rows, is_decided)
-}
-
-#[test]
-fn a_torn_body_counts_for_nothing(rt: HostRuntime) -> Result<(), Fail> {
-    let alloc = rt.alloc();
-    // The record of `a` ends with byte 40, the gate of the next is byte 41. After it the crash leaves a whole record, Withdraw
-    // of `a`, and an open gate.
-    let mut choice = [0xa5u8; 144];
-    for (i, byte) in [4u8, 0, 0, 0, 1, 3, 1, b'a', 0xa5].iter().enumerate() {
-        if i < 9 {
-            choice[42 + i] = *byte;
-        }
-    }
-    passes(recovers(alloc, torn(alloc, 0, &choice)?, (Some(1), None)))
-}
-
-// The library with `a`, closed by a `compact` over a fuse that lets two calls pass.
+// The library with `a`, closed by a `compact` whose first two device calls pass the fuse.
 fn cut_off(alloc: Global) -> Result<Library<FuseDisk<MemoryDisk>>, Fail> {
-    let mut library = with_a(alloc, OPENING.saturating_add(2))?;
+    let mut library = with_a(alloc, OPENING.saturating_add(2), FuseMode::Within)?;
     if does(alloc, &mut library, Step::Compact)? != 35 {
         return Err(Fail::from("the fuse was not met"));
     }
     Ok(library)
 }
 
-// The row of that `compact`: the area byte is torn.
-#[test]
-fn a_torn_area_byte_keeps_the_map(rt: HostRuntime) -> Result<(), Fail> {
-    let alloc = rt.alloc();
-    let disk = cut_off(alloc)?.into_disk().into_disk();
-    for byte in 0..=255u8 {
-        passes(crash_leaves(alloc, &disk, &[byte], (Some(1), None)))?;
-    }
-    Ok(())
-}
-
-#[test]
-fn a_closed_library_still_answers_from_its_map(rt: HostRuntime) -> Result<(), Fail> {
-    passes(still_answers(rt.alloc()))
-}
-
+// Whether a closed library still answers from its map.
 fn still_answers(alloc: Global) -> Result<bool, Fail> {
     let mut library = cut_off(alloc)?;
     let steps = [
@@ -194,36 +210,24 @@ fn still_answers(alloc: Global) -> Result<bool, Fail> {
         (Step::Withdraw(b'a'), 36),
     ];
     let right = answers(alloc, &mut library, &steps)? && holds(alloc, &library, (Some(1), None))?;
-    // No call but the one that met the fuse reached the device.
+    // Only one device call failed: the one that met the fuse.
     Ok(right && library.into_disk().failures() == 1)
 }
 
 #[test]
-fn compact_writes_one_add_per_name(rt: HostRuntime) -> Result<(), Fail> {
-    passes(is_compacted(rt.alloc()))
-}
-
-fn is_compacted(alloc: Global) -> Result<bool, Fail> {
-    let mut library = opened(alloc, formatted(alloc, 128)?)?;
-    let steps = [
-        Step::Add(b'b', 2),
-        Step::Add(b'a', 1),
-        Step::Withdraw(b'b'),
-        Step::Add(b'b', 4),
-        Step::Compact,
-    ];
-    let done = steps_done(alloc, &mut library, &steps)?;
-    // Area B begins at 144: an Add of `a` and one of `b`, each of 25 bytes, and a closed gate.
-    let parts: [(usize, &[u8]); 9] = [
-        (0, &[1]),
-        (144, &[0xa5]),
-        (149, &[1]),
-        (150, &[1]),
-        (152, b"a"),
-        (169, &[0xa5]),
-        (175, &[1]),
-        (177, b"b"),
-        (194, &[0]),
-    ];
-    Ok(done == 5 && has_parts(alloc, &mut library.into_disk(), &parts)?)
+fn torn_writes(rt: HostRuntime) -> Result<(), Fail> {
+    let alloc = rt.alloc();
+    for number in 0..CUTS.len() {
+        row_passes(number, is_torn(alloc, &CUTS[number]))?;
+    }
+    passes(still_answers(alloc))?;
+    // the row of that `compact`: its area byte is torn, and the map is kept
+    let disk = cut_off(alloc)?.into_disk().into_disk();
+    for byte in 0..=255u8 {
+        row_passes(
+            byte as usize,
+            crash_leaves(alloc, &disk, &[byte], (Some(1), None)),
+        )?;
+    }
+    Ok(())
 }

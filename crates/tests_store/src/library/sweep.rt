@@ -1,5 +1,5 @@
-// Every point of failure of add, add, replace, compact, withdraw, in each mode, and a crash after each; and the same through
-// `run`.
+// Every point of failure of add, add, replace, compact, withdraw, in each mode, and a crash after each; and the same steps
+// through `run`.
 
 use crate::library::helpers::{
     Held, Step, crash_leaves, edits, formatted, next_byte, opened, refusal, steps_done,
@@ -8,7 +8,7 @@ use cc_disk::{FuseDisk, FuseMode, MemoryDisk};
 use cc_library::Library;
 use std::alloc::Global;
 use std::test::Fail;
-use tests_texts::verdict::passes;
+use tests_texts::verdict::{passes, row_passes};
 
 // Three device calls to open an empty library, and four for each change and for `compact`.
 const CALLS: u64 = 23;
@@ -21,7 +21,7 @@ const STEPS: [Step; 5] = [
     Step::Withdraw(b'b'),
 ];
 
-// What `a` and `b` hold after this many of the steps.
+// What the library holds under `a` and `b` after this many of the steps.
 fn map_after(done: usize) -> Held {
     match done {
         0 => (None, None),
@@ -32,7 +32,7 @@ fn map_after(done: usize) -> Held {
     }
 }
 
-// A new library's disk whose calls meet a fuse.
+// A new library's disk, with a fuse in this mode that passes this many calls.
 fn fused(alloc: Global, passes: u64, mode: FuseMode) -> Result<FuseDisk<MemoryDisk>, Fail> {
     Ok(FuseDisk::new(formatted(alloc, 128)?, passes, mode))
 }
@@ -78,7 +78,7 @@ fn is_right(alloc: Global, disk: &MemoryDisk, done: usize) -> Result<bool, Fail>
     Ok(true)
 }
 
-// Whether the steps are right over a fuse that lets this many calls pass.
+// Whether each crash leaves the right map if the steps meet a fuse that passes this many calls.
 fn survives(alloc: Global, calls: u64, mode: FuseMode) -> Result<bool, Fail> {
     let (disk, done) = changed(alloc, fused(alloc, calls, mode)?)?;
     Ok((done == 5 || calls < CALLS) && is_right(alloc, &disk, done)?)
@@ -88,14 +88,14 @@ fn survives(alloc: Global, calls: u64, mode: FuseMode) -> Result<bool, Fail> {
 fn every_failure_and_a_crash(rt: HostRuntime) -> Result<(), Fail> {
     for calls in 0..CALLS + 1 {
         for mode in [FuseMode::Once, FuseMode::Before, FuseMode::Within] {
-            passes(survives(rt.alloc(), calls, mode))?;
+            row_passes(calls as usize, survives(rt.alloc(), calls, mode))?;
         }
     }
     Ok(())
 }
 
-// What a run of the steps over a fuse left: its disk, the fault with which it stopped (0: none), how many numbers it gave,
-// and how many of these are 35.
+// What a run of the steps over a fuse left: the disk, the number of the fault that stopped the run (0: none), how many
+// numbers the run gave, and how many of these are 35.
 #[derive(Drop)]
 struct Ran {
     disk: MemoryDisk,
@@ -123,32 +123,27 @@ fn run_over(alloc: Global, passes: u64, mode: FuseMode) -> Result<Ran, Fail> {
     })
 }
 
+// Whether a run goes on after one failure.
 fn goes_on(alloc: Global, calls: u64) -> Result<bool, Fail> {
     let ran = run_over(alloc, calls, FuseMode::Once)?;
     let right = ran.stopped == 0 && ran.count == 5 && ran.failed == usize::from(calls < CALLS);
     Ok(right && refusal(alloc, ran.disk) == 0)
 }
 
-#[test]
-fn a_run_goes_on_after_one_failure(rt: HostRuntime) -> Result<(), Fail> {
-    for calls in 3..CALLS + 1 {
-        passes(goes_on(rt.alloc(), calls))?;
-    }
-    Ok(())
-}
-
-#[test]
-fn a_run_stops_where_its_disk_is_not_opened_again(rt: HostRuntime) -> Result<(), Fail> {
-    for calls in 3..CALLS {
-        passes(stops(rt.alloc(), calls))?;
-    }
-    Ok(())
-}
-
+// Whether a run stops if its disk is not opened again.
 fn stops(alloc: Global, calls: u64) -> Result<bool, Fail> {
     let ran = run_over(alloc, calls, FuseMode::Before)?;
     // The last number is that of the step that met the fuse.
     let done = ran.count.saturating_sub(1);
     let right = ran.stopped == 35 && ran.failed == 1 && done as u64 == calls.saturating_sub(3) / 4;
     Ok(right && is_right(alloc, &ran.disk, done)?)
+}
+
+#[test]
+fn runs_over_a_fuse(rt: HostRuntime) -> Result<(), Fail> {
+    for calls in 3..CALLS {
+        row_passes(calls as usize, goes_on(rt.alloc(), calls))?;
+        row_passes(calls as usize, stops(rt.alloc(), calls))?;
+    }
+    passes(goes_on(rt.alloc(), CALLS))
 }

@@ -32,7 +32,7 @@ fn has_moves(alloc: Global, text: &str, between: usize) -> Result<bool, Fail> {
     }
 }
 
-// Parameters are taken, handed to calls and returned without a move.
+// Parameters are read, passed to calls and returned without a move.
 static WITHOUT_MOVES: [&str; 5] = [
     "int f(int x){return x;}int main(void){}",
     "int f(int a,int b){return a-b;}int main(void){}",

@@ -1,4 +1,4 @@
--- One more line, depending on its answer.
+-- One more line is answered; what follows depends on its answer.
 use Rattle.std.proofs.Common.{ℕ, List, true, Bool, subst}
 use Rattle.std.proofs.lemmas.Option.{IfSome_then}
 use Rattle.std.specs.Io.BufRead.{strip_last}

@@ -1,4 +1,4 @@
--- The numbers in a sequence are those in its list.
+-- The numbers in a sequence are those in the list of its statements.
 use Rattle.std.proofs.Common.{rules}
 use Rattle.cc_cminor.specs.declared.code.Statement as written
 use Rattle.cc_cminor.proofs.Counting.{fits_list}

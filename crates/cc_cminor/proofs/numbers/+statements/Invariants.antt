@@ -5,7 +5,7 @@ use Rattle.cc_cminor.specs.Numbers.{most_variables, StatementFits}
 use Rattle.cc_cminor.specs.Variables.{above_statement}
 use Rattle.cc_cminor.proofs.numbers.+statements.Given as goal
 
--- the count so far, with the rest, is the count for all
+-- counting the remaining statements from the count so far gives the count for all
 abbrev pub invariant-all_above-loop-s : goal.invariant-all_above-loop-s
 invariant-all_above-loop-s l = record {
   counted : above_statement l.counted (in_sequence (statements_of (drop l.s-index l.all))) ≡ above_statement l.fn.count (in_sequence (statements_of l.all));

@@ -4,7 +4,7 @@ use Rattle.cc_cminor.specs.Numbers.{most_variables, ExpressionsBelow}
 use Rattle.cc_cminor.specs.Variables.{above_expressions}
 use Rattle.cc_cminor.proofs.numbers.with_expressions.Given as goal
 
--- the count so far, with the rest, is the count for all
+-- counting the remaining expressions from the count so far gives the count for all
 abbrev pub invariant-loop-e : goal.invariant-loop-e
 invariant-loop-e l = record {
   counted : above_expressions l.all (expressions_of (drop l.e-index l.es)) ≡ above_expressions l.fn.count (expressions_of l.es);

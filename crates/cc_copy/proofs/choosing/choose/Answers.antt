@@ -1,4 +1,4 @@
--- Nothing is chosen before the first name, and each name adds its unit.
+-- At first nothing is chosen, and each name adds its unit.
 use Rattle.std.proofs.Common.{◌≡◌, ◌∙◌, ℕ, List, IsTrue, Some, sym, ap, subst, arith}
 use Rattle.std.specs.Arc.{arc_value}
 use Rattle.std.specs.Ordering.{nat_cmp}
@@ -25,5 +25,5 @@ loop-i-preserved c =
     let found : map.get units name ≡ Some unit = sym c.in-Some.ensures in
     record {
       there = All-more (λ (n : List ℕ). IsTrue (map.contains_key units n)) names i name c.loop-i-test.true c.loop-i.invariant.there (subst (λ (n : List ℕ). IsTrue (map.contains_key units n)) c.index-names-i.is (has units name unit found));
-      chosen = λ q. one_more units c.loop-i.chosen c.add.new.chosen names i q name unit c.loop-i-test.true c.index-names-i.is c.in-Ok.ensures found (c.loop-i.invariant.chosen q);
+      chosen = λ q. one_more units c.loop-i.chosen c.add.new.self names i q name unit c.loop-i-test.true c.index-names-i.is c.in-Ok.ensures.ok found (c.loop-i.invariant.chosen q);
     }

@@ -1,4 +1,4 @@
--- The units of the names so far; each name has one.
+-- The units chosen are those of the names so far, and each of these names has a unit.
 use Rattle.std.proofs.Common.{ℕ, List, take, IsTrue}
 use Rattle.std.specs.Prelude.{All}
 use Rattle.std.specs.FinMap as map

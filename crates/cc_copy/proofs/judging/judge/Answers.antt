@@ -1,4 +1,4 @@
--- The unit that is audited is that of the name.
+-- The unit that is audited is the one under the name.
 use Rattle.std.proofs.Common.{◌≡◌, Some, sym, ap, ◌∙◌}
 use Rattle.std.specs.FinMap as map
 use Rattle.cc_unit.specs.declared.unit.StoredUnit.{StoredUnit}

@@ -1,4 +1,4 @@
--- The names so far.
+-- The texts so far are names, and these are the names.
 use Rattle.std.proofs.Common.{◌≡◌, map, take, IsTrue}
 use Rattle.std.specs.Prelude.{All, string_bytes}
 use Rattle.cc_library.specs.Name.{is_name}

@@ -1,4 +1,4 @@
--- Even if memory runs out, a device step is due, so it can fail.
+-- Even if memory runs out, a device step is due that can fail, so the event has a step.
 use Rattle.std.proofs.Common.{◌≡◌, refl, arith}
 use Rattle.cc_core.specs.declared.contents.Due.TheVariants as due
 use Rattle.cc_core.specs.Step.{Fails}

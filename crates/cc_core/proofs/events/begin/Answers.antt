@@ -1,4 +1,4 @@
--- Even if memory runs out, the job exists and its pieces are all there, so the event has a step.
+-- Even if memory runs out, the job exists and its pieces have all been answered, so the event has a step.
 use Rattle.std.proofs.Common.{◌≡◌, refl, sym, ap, Some, arith}
 use Rattle.std.specs.Prelude.{IsTrue}
 use Rattle.std.proofs.lemmas.Grind.{common_steps}

@@ -1,4 +1,5 @@
--- If the client has a job, the look-up lends it, and the write to its piece amounts to an insertion into the table.
+-- If the client has a job, the look-up lends the job, and the write to one of its pieces is an insertion into the
+-- table.
 use Rattle.std.proofs.Common.{refl, sym, ap, subst, ◌∙◌, IsSome}
 use Rattle.std.specs.Ordering.{nat_cmp}
 use Rattle.std.specs.Cmp.{nat_cmp_total}

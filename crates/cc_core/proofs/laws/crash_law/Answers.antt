@@ -1,4 +1,5 @@
--- Whatever a run reaches from a beginning is sound, for units that are right or were found at the beginning.
+-- Whatever a run reaches from a beginning is sound, with "right, or found at the beginning" as the property
+-- of units.
 use Rattle.std.proofs.Common.{inl, inr}
 use Rattle.cc_core.specs.Run.{IsRightOr}
 use Rattle.cc_core.proofs.Sound.{run_IsSound, beginning-IsSound, puts_source}

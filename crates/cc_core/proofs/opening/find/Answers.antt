@@ -1,4 +1,5 @@
--- What the journal holds was already on the disk, since opening only reads the disk, and the disk is honest.
+-- The records of the journal were on the disk before, since opening only reads the disk, and the disk is
+-- honest.
 use Rattle.std.proofs.Common.{ℕ, List, refl, ap, subst, ◌∙◌, length, true}
 use Rattle.cc_disk.specs.Model.{bytes_of}
 use Rattle.cc_disk.specs.internal.Laws.{bytes_are_image}

@@ -1,4 +1,4 @@
--- The disk that the journal gives back is settled, and holds the records that were read.
+-- The disk that the journal hands back is settled, and holds the records that were read.
 use Rattle.std.proofs.Common.{◌≡◌, ℕ, List, sym, ap, subst, ◌∙◌}
 use Rattle.cc_disk.specs.Model.{bytes_of}
 use Rattle.cc_disk.specs.Past.{DiskState}

@@ -1,4 +1,4 @@
--- One more body was read, and its command was put last.
+-- One more body was read, and its command was added at the end.
 use Rattle.std.proofs.Common.{◌≡◌, ℕ, ◌+◌, suc, List, [], ◌∷◌, ◌++◌, drop, drop-cons, sym, ap, subst, ◌∙◌, arith}
 use Rattle.std.proofs.lemmas.List.{drop_all}
 use Rattle.cc_library.specs.Body.{Spells}

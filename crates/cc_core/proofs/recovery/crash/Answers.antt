@@ -1,4 +1,4 @@
--- If the core refuses the crash, so does this function, and all jobs stay.
+-- If the core refuses the crash, so does this function, and all jobs are kept.
 use Rattle.std.proofs.Common.{refl, subst}
 use Rattle.cc_core.specs.internal.Answers.{Answers}
 use Rattle.cc_core.specs.Step.{Crashes}

@@ -1,4 +1,4 @@
--- The disk of a crashed state can be opened, and what is found there agrees with what the state says about the disk.
+-- The disk of a crashed state can be opened, and what is found on it agrees with the state.
 use Rattle.std.proofs.Common.{refl, ◌∙◌}
 use Rattle.cc_core.specs.declared.contents.Phase.TheVariants.{Idle}
 use Rattle.cc_core.specs.Step.{Reopens}

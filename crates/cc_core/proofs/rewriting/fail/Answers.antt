@@ -1,4 +1,4 @@
--- In a rewrite no commit can fail, and outside a rewrite no rewrite can.
+-- During a rewrite no commit can fail, and outside a rewrite no rewrite can.
 use Rattle.cc_core.proofs.Possible.{in_rewrite, out_of_rewrite}
 use Rattle.cc_core.proofs.rewriting.fail.Goals as goal
 

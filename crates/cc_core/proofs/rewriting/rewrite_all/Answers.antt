@@ -1,4 +1,5 @@
--- What is written is the journal with one Add per name. It fits: the type of the state keeps this for an idle state.
+-- What is written is the journal with one Add per name. That it fits is part of what the type of the state keeps for
+-- an idle state.
 use Rattle.std.proofs.Common.{◌≡◌, ◌≤◌, List, ℕ, refl, sym, ap, subst, ◌∙◌, arith}
 use Rattle.cc_journal.specs.Commit.{rewrite_commit}
 use Rattle.cc_journal.specs.Format.{room_of}

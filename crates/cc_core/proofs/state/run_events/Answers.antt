@@ -1,4 +1,4 @@
--- The run so far goes on by the turn of this event.
+-- The run so far, followed by the turn of this event, is a run.
 use Rattle.cc_core.proofs.Possible.{where_done}
 use Rattle.cc_core.proofs.Runs.{Run-push}
 use Rattle.cc_core.proofs.state.run_events.Goals as goal

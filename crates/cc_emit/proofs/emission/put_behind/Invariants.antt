@@ -1,4 +1,4 @@
--- The items so far, followed by those still to be put, are all the items.
+-- The items so far, followed by those still to be emitted, are all the items.
 use Rattle.std.proofs.Common.{◌≡◌, ◌++◌, drop, map}
 use Rattle.cc_emit.specs.Function.{shifted}
 use Rattle.cc_emit.proofs.emission.put_behind.Given as goal

@@ -1,4 +1,4 @@
--- The items so far, followed by those still to be put, are all the items.
+-- The items so far, followed by those still to be emitted, are all the items.
 use Rattle.cc_emit.specs.internal.Bases.{base_in}
 use Rattle.cc_emit.proofs.Bridging.{Emitting}
 use Rattle.cc_emit.proofs.emission.put_code.Given as goal

@@ -1,4 +1,4 @@
--- The items so far, followed by those still to be put, are all the items.
+-- The items so far, followed by those still to be emitted, are all the items.
 use Rattle.std.proofs.Common.{◌≡◌, ◌<◌, ◌+◌, ◌*◌, ◌++◌, drop}
 use Rattle.std.specs.List.{AllByRecursion}
 use Rattle.cc_emit.specs.Emission.{saving}

@@ -1,4 +1,5 @@
--- The registers that the steps so far write, and those that the rest writes, are all that are written.
+-- The registers that the steps so far write, and those that the rest write, are all the registers that the
+-- steps write.
 use Rattle.cc_emit.proofs.Kept.{Found}
 use Rattle.cc_emit.proofs.frame.written.Given as goal
 

@@ -1,5 +1,5 @@
--- The steps so far, followed by those still to be looked at, are all the steps; the same holds for the instructions of their accesses;
--- and there is room for the steps.
+-- The steps so far, followed by those still to be looked at, are all the steps, and the numbers of instructions of their accesses
+-- add up to the whole; there is room for the steps.
 use Rattle.std.proofs.Common.{◌≡◌, ◌≤◌, length, vec_len}
 use Rattle.std.specs.Vec.{vec_capacity}
 use Rattle.cc_emit.specs.internal.Bases.{base_in}

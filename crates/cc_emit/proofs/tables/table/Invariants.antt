@@ -1,4 +1,4 @@
--- The table has the steps after this one.
+-- The table covers the steps after this one.
 use Rattle.cc_emit.proofs.Tabling.{Filled}
 use Rattle.cc_emit.proofs.tables.table.Given as goal
 

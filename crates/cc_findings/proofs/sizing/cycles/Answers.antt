@@ -1,4 +1,4 @@
--- One more call: the one that was pushed.
+-- The one new call is the one that was pushed.
 use Rattle.std.proofs.Common.{◌≡◌, ◌<◌, ℕ, List, get_or, length, slice_get, Some, sym, subst, rules}
 use Rattle.std.proofs.lemmas.Option.{slice_get-get_or}
 use Rattle.cc_ast.specs.Source.{source}
@@ -8,7 +8,7 @@ use Rattle.cc_findings.specs.declared.sizing.CyclicCall.{CyclicCall}
 use Rattle.cc_findings.proofs.Placing.{each_more}
 use Rattle.cc_findings.proofs.sizing.cycles.Goals as goal
 
--- what is read past the end
+-- the call that is read past the end of a list
 abbrev none : Recursion
 none = record { caller = 0; called = 0 }
 

@@ -1,4 +1,4 @@
--- The calls so far, by names.
+-- The calls so far have been added, by names.
 use Rattle.std.proofs.Common.{◌≡◌, ℕ, length, slice_get, Some}
 use Rattle.cc_ast.specs.Source.{source}
 use Rattle.cc_findings.specs.Measured.{IsCycle}

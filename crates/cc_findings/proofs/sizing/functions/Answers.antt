@@ -1,4 +1,4 @@
--- One more function: the one that was pushed, and the place after it.
+-- The one new function is the one that was pushed, and the next place is the one after it.
 use Rattle.std.proofs.Common.{◌≡◌, ◌∙◌, ◌+◌, ◌*◌, ◌<◌, ℕ, List, [], ◌∷◌, ◌++◌, length, get_or, slice_get, Some, sym, ap, subst, rules, arith}
 use Rattle.std.proofs.lemmas.Option.{slice_get-get_or}
 use Rattle.cc_ast.specs.Source.{source}
@@ -8,7 +8,7 @@ use Rattle.cc_findings.specs.declared.sizing.SizedFunction.{SizedFunction}
 use Rattle.cc_findings.proofs.Placing.{place_next, each_more}
 use Rattle.cc_findings.proofs.sizing.functions.Goals as goal
 
--- what is read past the end
+-- the size that is read past the end of a list
 abbrev none : FunctionSize
 none = record { words = 0; frame = 0; stack = 0; calls = 0 }
 

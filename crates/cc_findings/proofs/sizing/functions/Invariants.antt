@@ -1,4 +1,4 @@
--- The functions so far, and the place of the next one.
+-- The functions so far have been added, and the place is that of the next one.
 use Rattle.std.proofs.Common.{◌≡◌, ℕ, length, slice_get, Some}
 use Rattle.cc_ast.specs.Source.{source}
 use Rattle.cc_findings.specs.Measured.{IsFunction, place_by}

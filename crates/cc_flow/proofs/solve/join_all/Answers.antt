@@ -1,4 +1,4 @@
--- The join with one more node.
+-- Each turn joins the facts of one more node.
 use Rattle.std.proofs.Common.{◌≡◌, suc, ◌-◌, ◌<◌, length, sym, ap, ◌∙◌, subst, get_or, drop, ◌∷◌, arith, drop-cons}
 use Rattle.std.proofs.lemmas.List.{get_or_read}
 use Rattle.cc_flow.specs.Lattice.{Equivalent}

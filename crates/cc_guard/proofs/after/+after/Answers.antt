@@ -1,4 +1,4 @@
--- What is known after a sequence is what is known after its list.
+-- What is known after a sequence is what is known after the list of its statements.
 use Rattle.std.proofs.Common.{◌∙◌, ap}
 use Rattle.cc_cminor.specs.Cminor as cminor
 use Rattle.cc_cminor.proofs.Codes.{if_ok}

@@ -5,6 +5,7 @@ use Rattle.cc_guard.specs.Guard.{falls}
 use Rattle.cc_guard.proofs.Writing.{last_falls}
 use Rattle.cc_guard.proofs.changed.+falling.Given as goal
 
--- the last statement of the rest decides whether control reaches the end of all; if there is no rest, the last one so far does
+-- the last of the remaining statements decides whether control reaches the end of the list; if none remains, the last one so
+-- far does
 abbrev pub invariant-last_falls-loop-s : goal.invariant-last_falls-loop-s
 invariant-last_falls-loop-s l = last_falls l.last (statements_of (drop l.s-index l.all)) ≡ falls (in_sequence (statements_of l.all))

@@ -1,4 +1,4 @@
--- A sequence sets the same variables as its list.
+-- A sequence sets the same variables as the list of its statements.
 use Rattle.std.proofs.Common.{◌+◌, List, drop, sym, subst}
 use Rattle.std.proofs.lemmas.List.{drop_all}
 use Rattle.cc_types.proofs.SameTypes.{drop-item}

@@ -2,6 +2,6 @@ use Rattle.std.proofs.Common.{◌≡◌, ◌++◌, drop}
 use Rattle.cc_guard.specs.Guard.{sets_result, kept}
 use Rattle.cc_guard.proofs.changed.kept_but.Given as goal
 
--- the bounds so far, followed by those kept of the rest, are all that is kept
+-- the bounds so far, followed by those kept from the rest, are all the bounds that are kept
 abbrev pub invariant-loop-limit : goal.invariant-loop-limit
 invariant-loop-limit l = l.limits.items ++ kept l.first (sets_result l.to) (drop l.limit-index l.known) ≡ kept l.first (sets_result l.to) l.known

@@ -1,4 +1,4 @@
--- The next bound is kept, or it is not.
+-- Two cases: the next bound is kept, or it is dropped.
 use Rattle.std.proofs.Common.{◌+◌, ◌∙◌, Bool, List, ◌++◌, drop, sym, ap, subst}
 use Rattle.cc_cminor.specs.Code.{statement_of}
 use Rattle.cc_guard.specs.declared.known.Limit.{Limit}

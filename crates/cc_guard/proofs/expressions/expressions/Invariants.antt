@@ -5,7 +5,7 @@ use Rattle.cc_guard.specs.Guard.{guarded_all}
 use Rattle.cc_guard.specs.internal.Written.{codes, sizes_of}
 use Rattle.cc_guard.proofs.expressions.expressions.Given as goal
 
--- what was made so far, followed by what the rest makes, is what all expressions make
+-- what was made so far, followed by what the rest gives, is what all expressions give
 abbrev pub invariant-loop-e : goal.invariant-loop-e
 invariant-loop-e l =
     let rest = guarded_all (sizes_of l.sizes) l.guards.known.items l.guards.next (expressions_of (drop l.e-index l.es)) in

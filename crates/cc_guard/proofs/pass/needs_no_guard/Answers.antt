@@ -1,4 +1,4 @@
--- What is known about code into which the pass puts no guard.
+-- Code into which the pass puts no guard needs no guard.
 use Rattle.std.proofs.Common.{◌≡◌, Bool, true, false, refl, sym, ◌∙◌, subst}
 use Rattle.std.specs.Prelude.{not}
 use Rattle.cc_cminor.specs.Pair.{tree_of, code_of}

@@ -6,7 +6,7 @@ use Rattle.cc_hex.specs.Layout.{base_line, record_line}
 use Rattle.cc_hex.proofs.Bases.{base_line_is, no_base_line}
 use Rattle.cc_hex.proofs.image.push_base.Goals as goal
 
--- what is written is the line
+-- if a block begins here, what is written is its base line
 moved : {T E : Type 0} (r : Result T E) (a : ℕ) (old new bytes : List ℕ) → a % 65536 ≡ 0 → bytes ≡ to_be_bytes w16 (a / 65536) →
     OnOk r (new ≡ old ++ record_line 4 0 bytes) → OnOk r (new ≡ old ++ base_line a)
 moved (Ok x) a old new bytes e b h = h ∙ ap (λ bs. old ++ record_line 4 0 bs) b ∙ ap (λ line. old ++ line) (sym (base_line_is a e))

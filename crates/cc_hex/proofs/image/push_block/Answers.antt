@@ -1,4 +1,4 @@
--- One more row.
+-- One more row is added to the block so far.
 use Rattle.std.proofs.Common.{◌≡◌, ℕ, suc, ◌+◌, ◌-◌, List, ◌++◌, length, take, drop, min, sym, ap, ◌∙◌, arith, append_assoc}
 use Rattle.std.specs.Ordering.{ord_min, nat_cmp}
 use Rattle.std.proofs.lemmas.Bool.Decides.{nat_tests}

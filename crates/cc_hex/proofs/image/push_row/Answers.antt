@@ -3,7 +3,7 @@ use Rattle.std.proofs.Common.{◌≡◌, ℕ, List, ◌++◌, ◌%◌, Result, O
 use Rattle.cc_hex.specs.Layout.{base_line, record_line, row}
 use Rattle.cc_hex.proofs.image.push_row.Goals as goal
 
--- if one text and then another one is written, both are written, in this order
+-- if one text is written and then another, both are written, in this order
 behind : {T E : Type 0} (r : Result T E) (old middle new first second : List ℕ) → middle ≡ old ++ first → OnOk r (new ≡ middle ++ second) → OnOk r (new ≡ old ++ (first ++ second))
 behind (Ok x) old middle new first second e h = h ∙ ap (λ t. t ++ second) e ∙ append_assoc old first second
 behind (Err x) old middle new first second e h = tt

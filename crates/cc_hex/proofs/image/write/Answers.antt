@@ -1,4 +1,5 @@
--- The text has the image's layout; such a text says the image's bytes in order, and so at each address.
+-- The text has the image's layout, and a text with this layout gives the image's bytes in order, and so at
+-- each address.
 use Rattle.std.proofs.Common.{◌≡◌, ℕ, List, [], ◌++◌, ◌≤◌, length, Some, ◌∙◌, ap, arith}
 use Rattle.cc_hex.specs.Format.{read, cells_from}
 use Rattle.cc_hex.specs.Contents.{bytes_of_words}
@@ -7,7 +8,7 @@ use Rattle.cc_hex.proofs.Whole.{said}
 use Rattle.cc_hex.proofs.Addresses.{held}
 use Rattle.cc_hex.proofs.image.write.Goals as goal
 
--- the parts of the text, one after another
+-- the parts of the text, written one after another, give the image's bytes in order
 parts_said : (code globals code_words globals_words t0 t1 t2 t3 : List ℕ) → code_words ≡ code → globals_words ≡ globals → length code ≤ 131072 → length globals ≤ 65536 →
     t0 ≡ [] → t1 ≡ t0 ++ block 65536 (bytes_of_words code_words) → t2 ≡ t1 ++ block 2097152 (bytes_of_words globals_words) → t3 ≡ t2 ++ record_line 1 0 [] →
     read t3 ≡ Some (cells_from 65536 (bytes_of_words code) ++ cells_from 2097152 (bytes_of_words globals))

@@ -1,4 +1,4 @@
--- The calls of a commit one after the other, with the bytes and offsets that the commit has.
+-- The calls of a commit one after the other, with the commit's bytes and offsets.
 use Rattle.std.proofs.Common.{◌≡◌, subst}
 use Rattle.cc_disk.specs.Images.{LeavesOnly}
 use Rattle.cc_journal.specs.Commit.{Commit}

@@ -1,4 +1,4 @@
--- If there is a certificate, its part is its length and its bytes.
+-- If there is a certificate, its part of the body has its length and its bytes.
 use Rattle.std.proofs.Common.{◌≡◌, ℕ, ◌<◌, List, length, Some, sym, ap, subst, ◌∙◌, arith}
 use Rattle.cc_library.specs.Body.{IsCertificate, certificate_part}
 use Rattle.cc_library.proofs.Sizes.{certificate_long}

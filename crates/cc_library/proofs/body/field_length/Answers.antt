@@ -1,4 +1,4 @@
--- The elements of a slice of bytes are bytes.
+-- The elements of a slice of bytes are below 256.
 use Rattle.std.proofs.Common.{arith}
 use Rattle.cc_library.proofs.Fields.{from_index}
 use Rattle.cc_library.proofs.body.field_length.Goals as goal

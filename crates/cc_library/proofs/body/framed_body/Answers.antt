@@ -1,4 +1,4 @@
--- The bytes are the body's length, the body, and a closed gate.
+-- The bytes made are the body's length, the body, and a closed gate.
 use Rattle.std.proofs.Common.{◌≡◌, ◌++◌, ◌<◌, ◌^◌, length, ℕ, List, [], ◌∷◌, ◌∙◌, ap, arith}
 use Rattle.std.specs.Int.{w32, to_le_bytes}
 use Rattle.std.specs.Option.{option_map}

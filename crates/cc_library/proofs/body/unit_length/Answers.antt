@@ -1,4 +1,4 @@
--- All fields except the certificate keep their limits by the unit's type.
+-- The unit's type keeps the limits of all fields except the certificate.
 use Rattle.std.proofs.Common.{length, ap, subst, arith}
 use Rattle.cc_library.specs.Body.{AreBelow}
 use Rattle.cc_library.proofs.Sizes.{unit_parts}

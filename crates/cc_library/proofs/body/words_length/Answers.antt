@@ -1,4 +1,4 @@
--- The elements of a slice of words are words.
+-- The elements of a slice of words are below 2^32.
 use Rattle.std.proofs.Common.{arith}
 use Rattle.cc_library.proofs.Fields.{from_index}
 use Rattle.cc_library.proofs.body.words_length.Goals as goal

@@ -1,4 +1,4 @@
--- What is read is spelled by the bytes, and what the bytes spell is read.
+-- The bytes spell the command that is read, and a command that the bytes spell is read.
 use Rattle.std.proofs.Common.{ℕ, List, get_or, ◌<◌, subst, arith}
 use Rattle.std.specs.Prelude.{Result, Ok, Err, IfOk}
 use Rattle.cc_library.specs.Change.{LibraryCommand}

@@ -22,7 +22,7 @@ pub returns-in-Return : goal.returns-in-Return
 returns-in-Return c =
     on_ok_weaker c.put-in-Return.result (λ e. return_put (end_in c.args.labels.now c.args.ends.now) c.args.block.now (listed c.args.following) c.args.items.now.items _ _ c.moves-before.ensures.moves c.in-Return.is e) c.put-in-Return.ensures
 
--- a block with one way leads to its next label
+-- a block with one successor leads to its next label
 abbrev LeadsOnTo : Operation → ℕ → Type 0
 LeadsOnTo op n =
     (op ≡ Nop n)

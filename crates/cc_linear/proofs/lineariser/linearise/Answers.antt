@@ -1,4 +1,5 @@
--- The type keeps that the run keeps up: a pair of LTL and what is made from its code make a pair of Linear.
+-- The answer's type keeps the fact that the run keeps up: a pair of LTL and what is made from its code make a
+-- pair of Linear.
 use Rattle.std.proofs.Common.{ap, sym, subst, ◌∙◌}
 use Rattle.std.specs.Arc.{arc_value}
 use Rattle.cc_ast.specs.declared.unit.Unit as parsed

@@ -1,4 +1,5 @@
--- What was made with the certificate is the stored unit, so what its type keeps is true of the stored unit.
+-- If no part fails, the unit made with the certificate is the stored unit, so what the type of a made unit
+-- keeps is true of the stored unit.
 use Rattle.std.proofs.Common.{◌≡◌, Some}
 use Rattle.cc_unit.specs.declared.unit.StoredUnit.{StoredUnit}
 use Rattle.cc_link.specs.Whole.{IsWholeIn}

@@ -1,4 +1,4 @@
--- The part that fails is different in the unit that was made.
+-- The part that fails differs from the same part of the unit that was made.
 use Rattle.std.proofs.Common.{◌≡◌, false, true, refl, sym, ap, ◌∙◌, inl}
 use Rattle.cc_unit.specs.declared.unit.StoredUnit.{StoredUnit}
 use Rattle.cc_link.proofs.auditing.made_along.Goals as goal

@@ -1,4 +1,4 @@
--- The length of a function that was written fits in four bytes.
+-- The length of a function's written LTL fits in four bytes.
 use Rattle.std.proofs.Common.{◌≡◌, ℕ, List, length, sym, ap, ◌∙◌, arith}
 use Rattle.std.proofs.lemmas.Result.{on_ok_weaker}
 use Rattle.cc_ltl.specs.Bytes.{ltl_bytes, word_bytes}

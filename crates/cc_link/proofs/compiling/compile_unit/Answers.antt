@@ -1,4 +1,4 @@
--- A unit's own pieces are refused only for the size of the image.
+-- If a unit's own pieces are refused, it is only because of the size of the image.
 use Rattle.std.proofs.Common.{◌≡◌, ◌⊎◌, inl, inr, Err, List, ap, subst, ◌∙◌}
 use Rattle.std.specs.Arc.{arc_value}
 use Rattle.cc_ast.specs.Source.{source}

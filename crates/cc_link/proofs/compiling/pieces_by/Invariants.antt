@@ -7,7 +7,7 @@ use Rattle.cc_link.specs.Made.{IsCompiled}
 use Rattle.cc_link.specs.Pieces.{AreFromIn}
 use Rattle.cc_link.proofs.compiling.pieces_by.Given as goal
 
--- the pieces so far are those of the functions so far
+-- the pieces so far are those of the functions so far, in order
 abbrev pub invariant-loop-function : goal.invariant-loop-function
 invariant-loop-function l = record {
   own : AreFromIn l.mode (source (arc_value l.unit)).text 0 l.pieces.items;

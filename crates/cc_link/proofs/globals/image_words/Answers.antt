@@ -1,4 +1,4 @@
--- One more declaration.
+-- Each turn adds the words of one more declaration.
 use Rattle.std.proofs.Common.{◌≡◌, ◌+◌, ◌++◌, List, ℕ, drop, ap, subst, ◌∙◌}
 use Rattle.cc_ast.specs.Erase.{external_tree, external_trees}
 use Rattle.cc_types.specs.Limits.{objects}

@@ -1,4 +1,4 @@
--- What each step answers, by the lemma of Answering that it needs.
+-- Each clause follows from what the steps answer, by a lemma of Answering.
 use Rattle.std.proofs.Common.{◌≡◌, ◌<◌, ◌≤◌, ◌⊎◌, inl, inr, ℕ, List, [], None, Err, false, true, refl, sym, ap, subst, ◌∙◌}
 use Rattle.std.proofs.lemmas.Bool.{cases_lt}
 use Rattle.std.specs.Arc.{arc_value}

@@ -3,7 +3,7 @@ use Rattle.std.specs.Prelude.{slice_index}
 use Rattle.cc_link.specs.Link.{fill, encoded}
 use Rattle.cc_link.proofs.words.add_function.Given as goal
 
--- the words so far, and those of what is left
+-- the words so far, followed by those of the items that are left, are all the words
 abbrev pub invariant-loop-item : goal.invariant-loop-item
 invariant-loop-item l = record {
   at : l.at ≡ l.place + 4 * l.item-index;

@@ -4,7 +4,8 @@ use Rattle.cc_link.specs.Link.{fill_all, encoded}
 use Rattle.cc_link.specs.internal.Filling.{lent, CanAllStand}
 use Rattle.cc_link.proofs.words.add_functions.Given as goal
 
--- the words so far, and those of what is left, which can be there
+-- the words so far, followed by those of the functions that are left, are all the words; these functions can
+-- be at their places
 abbrev pub invariant-loop-items : goal.invariant-loop-items
 invariant-loop-items l = record {
   stand : CanAllStand (length l.places) l.place (lent (drop l.items-index l.bodies));

@@ -1,4 +1,4 @@
--- Each function's place is valid, and the three parts together are the words of the whole code.
+-- Each function's place is valid, and the parts that are added make up the words of the whole code.
 use Rattle.std.proofs.Common.{◌≡◌, ◌<◌, ◌++◌, ℕ, List, length, false, true, ap, sym, subst, ◌∙◌, arith, slice_index}
 use Rattle.std.proofs.lemmas.List.{length-map}
 use Rattle.cc_link.specs.Link.{fill, fill_all, head, encoded, linked_code, code_words}

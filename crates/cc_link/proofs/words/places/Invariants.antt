@@ -3,7 +3,7 @@ use Rattle.cc_link.specs.Link.{size_of}
 use Rattle.cc_link.specs.internal.Filling.{lent, places_from}
 use Rattle.cc_link.proofs.words.places.Given as goal
 
--- the places so far, and those of what is left
+-- the places so far, followed by those of the functions that are left, are all the places
 abbrev pub invariant-loop-items : goal.invariant-loop-items
 invariant-loop-items l = record {
   place : l.place + 4 * size_of (lent (drop l.items-index l.bodies)) ≡ 65548 + 4 * size_of (lent l.bodies);

@@ -1,4 +1,4 @@
--- One more node is listed if it is dead.
+-- Each turn lists one more label if its node is dead.
 use Rattle.std.proofs.Common.{◌∙◌, ap, sym, refl, arith}
 use Rattle.std.proofs.lemmas.List.{take_all}
 use Rattle.cc_rtl_language.specs.Rtl.{Labelled}

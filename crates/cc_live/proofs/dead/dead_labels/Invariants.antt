@@ -1,4 +1,4 @@
--- The labels of the dead nodes so far.
+-- The list has the labels of the dead nodes so far.
 use Rattle.std.proofs.Common.{◌≡◌, take}
 use Rattle.cc_live.specs.Rows.{rows_at}
 use Rattle.cc_live.specs.internal.Dead.{dead_labels}

@@ -1,4 +1,4 @@
--- The nodes that are dropped by the least strongly live sets are all those that nobody needs.
+-- The nodes that are dropped by the least strongly live sets are all the nodes that nothing needs.
 use Rattle.std.proofs.Common.{◌≡◌, ◌∙◌, true, ap, sym, subst, List, ℕ, length}
 use Rattle.cc_rtl_language.specs.Rtl.{Rtl}
 use Rattle.cc_rtl_language.specs.Pair.{Pair}

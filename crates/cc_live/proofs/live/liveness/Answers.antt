@@ -1,4 +1,4 @@
--- The solver's answer for plain live sets.
+-- The answer is the solver's, for plain live sets.
 use Rattle.std.proofs.Common.{sym, subst, ℕ, List}
 use Rattle.cc_rtl_language.specs.Live.{AreLive}
 use Rattle.cc_live.specs.Rows.{rows_at}

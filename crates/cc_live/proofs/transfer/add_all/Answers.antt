@@ -1,4 +1,4 @@
--- One more register is added.
+-- Each turn adds one more register.
 use Rattle.std.proofs.Common.{◌≡◌, ◌∙◌, ap, sym, refl, ◌||◌, ◌==◌, ◌+◌, ◌<◌, ℕ, List, length, take, get_or, Bool, true, false}
 use Rattle.std.proofs.lemmas.List.{take_more, take_all}
 use Rattle.cc_rtl_language.specs.Live.{among}

@@ -1,4 +1,4 @@
--- What was live after the node, without its result, and with what it reads.
+-- The set holds what was live after the node, without the node's result, and what the node reads.
 use Rattle.std.proofs.Common.{◌∙◌, ap, sym, ◌||◌, ◌&&◌, not, ℕ, List}
 use Rattle.cc_rtl_language.specs.Code.{node_of}
 use Rattle.cc_rtl_language.specs.Live.{reads, result, among}

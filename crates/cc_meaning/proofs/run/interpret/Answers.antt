@@ -1,4 +1,4 @@
--- The form's run from the start of `main` gives the source's behavior.
+-- The form's run from the start of `main` has the source's behavior.
 use Rattle.std.proofs.Common.{◌≡◌, ℕ, List, ◌-◌, ◌<◌, length, ap, ◌∙◌, subst, arith}
 use Rattle.cc_ast.specs.Source.{source}
 use Rattle.cc_c_semantics.specs.Meaning.{source_behavior}

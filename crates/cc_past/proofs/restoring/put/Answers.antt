@@ -1,4 +1,4 @@
--- The add or the replace sets the unit, and the map before it is the one to which the disk recovered.
+-- The Add or the Replace sets the unit, and the map before it is the one to which the disk recovered.
 use Rattle.std.proofs.Common.{◌≡◌, ◌≢◌, ℕ, Bool, IsTrue, List, [], ◌∷◌, ◌++◌, sym, ap, subst, ◌∙◌}
 use Rattle.std.specs.Prelude.{if◌then◌else◌, IfErr}
 use Rattle.std.specs.FinMap as map

@@ -1,4 +1,4 @@
--- What is put is what the command stored, and the disk was only read before.
+-- The unit that is put is the one that the command stored, and before that the disk was only read.
 use Rattle.std.proofs.Common.{ℕ, List, [], ◌∷◌, ◌++◌, sym, ap, subst}
 use Rattle.std.specs.FinMap as map
 use Rattle.cc_unit.specs.declared.unit.StoredUnit.{StoredUnit}

@@ -4,7 +4,8 @@ use Rattle.cc_history.specs.Closing.{receipts_of}
 use Rattle.cc_history.specs.History.{IsOwn}
 use Rattle.cc_recorded.proofs.closing.count_receipts.Given as goal
 
--- the clients so far have this many receipts, fewer than 2 ^ 64 each, of their own calls
+-- the clients so far have this many receipts together, at most 2 ^ 64 for each client, and each client's
+-- receipts are of its own calls
 abbrev pub invariant-loop-client : goal.invariant-loop-client
 invariant-loop-client g l = record {
   counted : l.count ≡ receipts_of (take l.client-index (map g.C.HasReceipts.member l.clients));

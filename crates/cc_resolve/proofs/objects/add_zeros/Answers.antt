@@ -1,4 +1,4 @@
--- One more zero.
+-- One more zero is appended.
 use Rattle.std.proofs.Common.{◌++◌, replicate}
 use Rattle.cc_resolve.proofs.Behind.{one-more-zero}
 use Rattle.cc_resolve.proofs.objects.add_zeros.Goals as goal

@@ -1,4 +1,4 @@
--- The functions of the unit, one by one.
+-- The functions of the unit are passed one by one.
 use Rattle.std.proofs.Common.{◌+◌, ◌-◌, drop, refl, subst, ap, ◌∙◌, arith}
 use Rattle.cc_ast.specs.Erase.{signature_tree, statements_of, object_trees, external_trees}
 use Rattle.cc_types.specs.Bindings.{file_level, file_of}

@@ -1,4 +1,4 @@
--- One more external declaration.
+-- One more external declaration is added.
 use Rattle.std.proofs.Common.{subst}
 use Rattle.cc_ast.specs.Erase.{external_tree, external_trees}
 use Rattle.cc_types.proofs.SameTypes.{drop-item}

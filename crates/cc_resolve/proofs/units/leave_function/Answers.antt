@@ -1,4 +1,4 @@
--- No scope has the parameters and locals any more.
+-- The parameters and locals are no longer in scope.
 use Rattle.std.proofs.Common.{[], ◌∙◌, ap}
 use Rattle.cc_types.specs.Bindings.{closed}
 use Rattle.cc_types.specs.Scope.{with_function}

@@ -1,4 +1,4 @@
--- Each expression takes at least one node.
+-- Each expression needs at least one node.
 use Rattle.std.proofs.Common.{arith}
 use Rattle.cc_cminor.specs.Code.{expression_of}
 use Rattle.cc_rtl.proofs.Sizes.{some_nodes}

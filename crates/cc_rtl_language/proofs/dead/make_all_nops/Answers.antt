@@ -1,4 +1,4 @@
--- Each turn makes one node a nop.
+-- Each turn makes one node a nop, if it is pure.
 use Rattle.std.proofs.Common.{◌∙◌, ap, sym, subst, take, get_or}
 use Rattle.std.specs.Prelude.{IsSome}
 use Rattle.std.proofs.lemmas.List.{take_all}

@@ -1,4 +1,4 @@
--- The nodes of this many labels are nops.
+-- The nodes of this many labels, if they are pure, are nops.
 use Rattle.std.proofs.Common.{◌≡◌, take}
 use Rattle.cc_rtl_language.specs.Code.{labelled_of}
 use Rattle.cc_rtl_language.specs.Live.{with_nops}

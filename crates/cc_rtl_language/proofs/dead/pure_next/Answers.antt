@@ -1,4 +1,4 @@
--- The node under the label, and its nop.
+-- The answer is that of the node under the label, compared with its nop.
 use Rattle.std.proofs.Common.{◌≡◌, ◌∙◌, ap, sym, subst, refl, option_map}
 use Rattle.cc_rtl_language.specs.Rtl.{node_at}
 use Rattle.cc_rtl_language.specs.Code.{node_of, labelled_of}

@@ -1,4 +1,4 @@
--- In each arm the word is the table's, and decoding it gives the instruction.
+-- In each arm the word is the table's, and decoding it yields the instruction.
 use Rattle.std.proofs.Common.{Some, sym, ap, ◌∙◌}
 use Rattle.cc_rv32.specs.Table.{instruction_of, encoding_of}
 use Rattle.cc_rv32.proofs.RoundTrip.{decoded}

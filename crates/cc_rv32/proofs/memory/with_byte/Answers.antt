@@ -4,7 +4,7 @@ use Rattle.std.proofs.lemmas.Nat.{and_mask}
 use Rattle.cc_rv32.specs.Machine.{with_part}
 use Rattle.cc_rv32.proofs.memory.with_byte.Goals as goal
 
--- the low bits
+-- `bit_and x 255` is the low eight bits of x
 low : (x : ℕ) → bit_and x 255 ≡ x % 256
 low x = and_mask x 8
 

@@ -4,7 +4,7 @@ use Rattle.std.proofs.lemmas.Nat.{and_mask}
 use Rattle.cc_rv32.specs.Machine.{with_part}
 use Rattle.cc_rv32.proofs.memory.with_half.Goals as goal
 
--- the low bits
+-- `bit_and x 65535` is the low sixteen bits of x
 low : (x : ℕ) → bit_and x 65535 ≡ x % 65536
 low x = and_mask x 16
 

@@ -1,4 +1,4 @@
--- If declarations fall, so do functions.
+-- If all declarations pass, all functions call only functions of lower ranks.
 use Rattle.std.proofs.Common.{List, sym, subst}
 use Rattle.std.proofs.lemmas.List.{drop_all}
 use Rattle.cc_ast.specs.declared.ast.External.{External}

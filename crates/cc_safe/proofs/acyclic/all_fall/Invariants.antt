@@ -1,4 +1,4 @@
--- If the rest fall, all fall.
+-- If the rest of the declarations pass, all pass.
 use Rattle.std.proofs.Common.{drop}
 use Rattle.cc_safe.specs.internal.Ranks.{AllFall, rank_by}
 use Rattle.cc_safe.proofs.acyclic.all_fall.Given as goal

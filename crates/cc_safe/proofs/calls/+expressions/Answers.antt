@@ -1,4 +1,4 @@
--- The parts of an expression, one by one.
+-- The parts of an expression are checked one by one.
 use Rattle.std.proofs.Common.{◌<◌, ℕ, List, ◌∙◌, ap, sym, subst, arith}
 use Rattle.cc_types.proofs.SameTypes.{drop-item}
 use Rattle.cc_types.proofs.Trees.{expression_tree-call}

@@ -1,4 +1,4 @@
--- What is written and what is assigned.
+-- The parts of an action are checked: what is written to, and what is assigned.
 use Rattle.std.proofs.Common.{◌<◌, ℕ, List, ap, sym, subst}
 use Rattle.cc_ast.specs.Erase.{action_tree, expression_tree}
 use Rattle.cc_ast.specs.declared.ast.Expression.{Expression}

@@ -1,4 +1,4 @@
--- The names of a declaration.
+-- The declarators of a declaration are checked.
 use Rattle.std.proofs.Common.{◌<◌, ℕ, List, ap, sym, subst}
 use Rattle.cc_ast.specs.Erase.{beginning_tree, declarator_trees}
 use Rattle.cc_ast.specs.declared.ast.Declarator.{Declarator}

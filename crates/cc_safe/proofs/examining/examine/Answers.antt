@@ -1,4 +1,4 @@
--- Both laws together.
+-- The laws `only_depth_is_left` and `acyclic_programs_are_never_deep` together.
 use Rattle.std.proofs.Common.{subst}
 use Rattle.std.specs.Arc.{arc_value}
 use Rattle.cc_ast.specs.Source.{source}

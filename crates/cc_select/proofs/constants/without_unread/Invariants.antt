@@ -1,4 +1,5 @@
--- The steps so far that stay, with what is live after each, and those of the others that will stay; there is room for all.
+-- The steps so far that stay, with what is live after each, followed by those of the rest that stay, are all that stay;
+-- there is room for them.
 use Rattle.std.proofs.Common.{◌≤◌, length, vec_len}
 use Rattle.std.specs.Vec.{vec_capacity}
 use Rattle.cc_select.proofs.Passing.{Keeping}

@@ -1,4 +1,4 @@
--- The steps so far, and what the others become; there is room for them.
+-- The steps so far, followed by what the others become, are all the steps; there is room for them.
 use Rattle.std.proofs.Common.{◌-◌, ◌≤◌, length, vec_len}
 use Rattle.std.specs.Vec.{vec_capacity}
 use Rattle.cc_select.specs.Table.{Table}

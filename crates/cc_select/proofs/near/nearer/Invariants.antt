@@ -1,4 +1,4 @@
--- The steps made so far, and those of the rest; there is room for them.
+-- The steps made so far, followed by those of the rest, are all the steps; there is room for them.
 use Rattle.std.proofs.Common.{◌≤◌, length, vec_len}
 use Rattle.std.specs.Vec.{vec_capacity}
 use Rattle.cc_select.proofs.Nearing.{Made}

@@ -1,4 +1,4 @@
--- The sweeps that are left give the table.
+-- The sweeps that are left yield the table.
 use Rattle.cc_select.specs.Table.{table}
 use Rattle.cc_select.proofs.Sweeping.{Settling}
 use Rattle.cc_select.proofs.table.settle.Given as goal

@@ -1,4 +1,4 @@
--- The steps so far, and those of the items to come.
+-- The steps so far, followed by those of the items to come, are all the steps.
 use Rattle.cc_select.specs.internal.Sets.{known_in, tests_in}
 use Rattle.cc_select.proofs.Gathering.{Threaded}
 use Rattle.cc_select.proofs.threading.chosen_by.Given as goal

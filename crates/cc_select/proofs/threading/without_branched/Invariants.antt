@@ -1,4 +1,4 @@
--- The table without tests for the labels to which branches of the items so far lead.
+-- The table has no tests for the labels to which branches of the items so far lead.
 use Rattle.cc_select.specs.internal.Sets.{tests_in}
 use Rattle.cc_select.proofs.Gathering.{Crossed}
 use Rattle.cc_select.proofs.threading.without_branched.Given as goal

@@ -1,4 +1,4 @@
--- What was done so far.
+-- The scripts taken so far are done and answered.
 use Rattle.cc_session.specs.Spooling.{HasDone, given_by}
 use Rattle.cc_session.proofs.attending.attend_in.Given as goal
 

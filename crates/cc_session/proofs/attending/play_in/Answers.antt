@@ -1,4 +1,4 @@
--- The script is what its reader has.
+-- The script consists of the bytes that its reader has.
 use Rattle.std.proofs.Common.{ℕ, List, Option, ap, subst}
 use Rattle.cc_script.specs.Reading.{Ahead}
 use Rattle.cc_session.specs.Playing.{IsPlayedBy, talk}

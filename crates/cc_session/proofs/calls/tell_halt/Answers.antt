@@ -1,4 +1,4 @@
--- A script that was done whole has no such line.
+-- If the whole script was done, no line is written.
 use Rattle.cc_session.proofs.calls.tell_halt.Goals as goal
 
 pub returns-in-Ok : goal.returns-in-Ok

@@ -1,4 +1,4 @@
--- One spool more was asked whether it is over.
+-- In each turn one more spool is asked whether it is over.
 use Rattle.std.proofs.Common.{◌∙◌, arith, sym, true≢false}
 use Rattle.std.proofs.Math.Seq.{map-set_same}
 use Rattle.std.proofs.lemmas.List.Elements.{AllWithin-more_set, AllWithin-upto, All-from_all_within}

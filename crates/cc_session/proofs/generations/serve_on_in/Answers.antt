@@ -1,4 +1,4 @@
--- The first generation, and then one more.
+-- The first generation ended; then, in each turn, one more did.
 use Rattle.std.proofs.Common.{◌∙◌, zero, suc, map, refl}
 use Rattle.cc_session.specs.Spooling.{ServingEnds, given_by}
 use Rattle.cc_session.proofs.Chains.{goes_on_by, serves_one_more, serves_still}

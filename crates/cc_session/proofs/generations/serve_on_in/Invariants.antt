@@ -1,4 +1,4 @@
--- How the generations so far ended; one that was the first ended well. Nothing is written.
+-- The generations so far ended as `ServesOn` says, the first one well. Nothing is written.
 use Rattle.std.proofs.Common.{◌≡◌, ℕ, map}
 use Rattle.cc_session.specs.Generations.{ServesOn}
 use Rattle.cc_session.specs.Spooling.{ServingEnds, given_by}

@@ -1,4 +1,4 @@
--- Some instructions are done, and these are left.
+-- Some instructions have been executed, and `left` of the steps are left.
 use Rattle.std.proofs.Common.{◌≡◌, ◌+◌, ℕ, []}
 use Rattle.cc_rv32.specs.Simulation.{IsAfter}
 use Rattle.cc_session.proofs.patience.run_in_slices.Given as goal

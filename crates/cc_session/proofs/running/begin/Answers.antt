@@ -1,5 +1,4 @@
--- What the library's opening says about the disk that was handed in, stated for the disk that the library has, whose bytes are
--- the same.
+-- What the library's opening says about the disk that was handed in, stated for the library's disk, whose bytes are the same.
 use Rattle.std.proofs.Common.{List, ℕ, sym, subst}
 use Rattle.cc_journal.specs.Format.{HoldsRecords}
 use Rattle.cc_session.proofs.Ends.{past_at}

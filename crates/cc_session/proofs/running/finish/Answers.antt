@@ -1,4 +1,4 @@
--- What the end of a service says about its book is what is left; the same holds if the service had to be given up.
+-- What is left is the book that the service had at its end, also if the service had to be given up.
 use Rattle.std.proofs.Common.{Vec, Global, sym, subst}
 use Rattle.cc_service.specs.Client.{ClientView, members}
 use Rattle.cc_recorded.specs.Promise.{IsGivenUp}

@@ -1,4 +1,4 @@
--- The clients and the spools so far.
+-- The clients and the spools taken apart so far are those of the first posts.
 use Rattle.std.proofs.Common.{◌≡◌, ◌≤◌, length, map, vec_len}
 use Rattle.std.specs.Vec.{vec_capacity}
 use Rattle.cc_session.proofs.serving.dismiss.Given as goal

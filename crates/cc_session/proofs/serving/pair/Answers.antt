@@ -1,4 +1,4 @@
--- One spool more has a client, the last of those that were left.
+-- In each turn one more spool gets a client, the last of those that are left.
 use Rattle.std.proofs.Common.{◌≡◌, ◌∙◌, [], ◌∷◌, ◌++◌, map, ap, arith}
 use Rattle.std.proofs.lemmas.List.{length-append, map-append}
 use Rattle.std.proofs.lemmas.List.Elements.{All-pop, All-push, All-same}

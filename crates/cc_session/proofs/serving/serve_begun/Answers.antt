@@ -1,5 +1,6 @@
--- Why no service was opened; an honest disk was read at most, and no spool was asked. Or it was opened, and each client did what its spool gave, in threads
--- that share the service and the meter; at 30 none did anything.
+-- If no service was opened, an honest disk was at most read, and no spool was asked. If one was opened, each
+-- client did what its spool gave, in threads that share the service and the meter; at 30 no client did
+-- anything.
 use denote.Param.Send.{sendable}
 use Rattle.std.proofs.Common.{◌≡◌, ◌∙◌, ℕ, ap, arith, get_or, inr, length, map, refl, rules, subst, sym}
 use Rattle.std.proofs.Crossing.{crosses}

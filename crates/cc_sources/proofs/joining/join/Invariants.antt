@@ -1,4 +1,4 @@
--- The whole so far, followed by what the remaining texts make, is the whole.
+-- What was joined so far, followed by the remaining texts, joined, is the whole.
 use Rattle.std.proofs.Common.{◌≡◌, ◌+◌, ◌++◌, drop, length}
 use Rattle.cc_sources.specs.Joined.{joined}
 use Rattle.cc_sources.proofs.joining.join.Given as goal

@@ -1,4 +1,4 @@
--- The place of a byte of the whole.
+-- The place that is found is that of the byte of the whole.
 use Rattle.std.proofs.Common.{rules, ◌≡◌, ◌+◌, ◌<◌, ◌≤◌, ℕ, suc, length, inl, inr, arith, get_or}
 use Rattle.std.specs.Prelude.{◌⊎◌}
 use Rattle.cc_sources.specs.Joined.{newline_after}

@@ -1,4 +1,4 @@
--- One more piece was copied and read.
+-- In each turn one more piece is copied and read.
 use Rattle.std.proofs.Common.{◌++◌, ◌∙◌, None, ap, arith, sym}
 use Rattle.std.proofs.KnownBytes.{Appends-trans, Consumes-trans}
 use Rattle.std.proofs.lemmas.List.{length-append}

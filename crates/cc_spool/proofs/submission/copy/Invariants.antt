@@ -1,4 +1,4 @@
--- The bytes so far were copied and read, at least one in each turn.
+-- The bytes so far are copied and read, at least one in each turn.
 use Rattle.std.proofs.Common.{◌≡◌, ◌+◌, ◌≤◌, List, ℕ, None, length}
 use Rattle.std.specs.Io.KnownBytes.{Appends, Consumes}
 use Rattle.cc_spool.specs.Answer.{between, read_bytes}

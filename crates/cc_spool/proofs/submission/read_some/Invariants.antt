@@ -1,4 +1,4 @@
--- Interrupted calls have given nothing.
+-- Calls that were interrupted read nothing.
 use Rattle.std.proofs.Common.{◌≡◌, length}
 use Rattle.std.specs.Io.KnownBytes.{Keeps}
 use Rattle.cc_spool.proofs.submission.read_some.Given as goal

@@ -1,4 +1,4 @@
--- The line comes after a newline.
+-- The line for the fault follows a newline.
 use Rattle.cc_submit.proofs.Printing.{refused_in_line}
 use Rattle.cc_submit.proofs.submitting.cut_short.Goals as goal
 

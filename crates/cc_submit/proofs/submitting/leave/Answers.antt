@@ -1,4 +1,4 @@
--- What was written of the answer, and what was written after it.
+-- What was printed is what was written of the answer, followed by what was written after it.
 use Rattle.std.proofs.Common.{Bool, List, Some, ap, subst, sym, ℕ}
 use Rattle.cc_spool.specs.Submitted.{HasWrittenIfOk}
 use Rattle.cc_submit.specs.Printed.{Prints}

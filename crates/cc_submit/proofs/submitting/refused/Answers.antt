@@ -1,4 +1,4 @@
--- One line or the other is written.
+-- The line for 40 or the line for 56 is written.
 use Rattle.std.proofs.Common.{inl, inr, IsTrue}
 use Rattle.cc_submit.proofs.submitting.refused.Goals as goal
 

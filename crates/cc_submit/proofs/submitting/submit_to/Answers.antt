@@ -1,4 +1,4 @@
--- The line is a command, since it was taken for one.
+-- The line is a command, since `is_command` said so.
 use Rattle.std.proofs.Common.{rules, string_bytes}
 use Rattle.std.specs.Option.{option_map}
 use Rattle.cc_submit.proofs.Printing.{unread}

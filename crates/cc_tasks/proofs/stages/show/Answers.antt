@@ -1,4 +1,4 @@
--- 59 comes from the stages of the text's unit.
+-- If the fault is 59, it comes from the stages of the text's unit.
 use Rattle.std.proofs.Common.{◌≡◌, Err, ap}
 use Rattle.std.specs.Arc.{arc_value}
 use Rattle.cc_ast.specs.Source.{source}

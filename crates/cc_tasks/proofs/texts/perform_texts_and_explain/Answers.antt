@@ -1,4 +1,4 @@
--- How the task that was done ended.
+-- The performed task ended as the clause says.
 use Rattle.std.specs.Prelude.{Some}
 use Rattle.cc_sources.specs.Joined.{joined}
 use Rattle.cc_tasks.proofs.Working.{performed}

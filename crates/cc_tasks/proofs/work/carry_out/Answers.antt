@@ -1,4 +1,4 @@
--- How the task that was done ended.
+-- The performed task ended as the clause says.
 use Rattle.cc_tasks.proofs.Working.{performed}
 use Rattle.cc_tasks.proofs.work.carry_out.Goals as goal
 

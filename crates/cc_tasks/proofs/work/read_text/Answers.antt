@@ -1,4 +1,4 @@
--- Why a text is not read.
+-- If the text is not read, no task has an answer.
 use Rattle.cc_tasks.proofs.Working.{unread}
 use Rattle.cc_tasks.proofs.work.read_text.Goals as goal
 

@@ -3,7 +3,7 @@ use Rattle.cc_tokens.specs.declared.token.Token.{Token}
 use Rattle.cc_tokens.specs.Reading.{FoundBefore}
 use Rattle.cc_tokens.proofs.lexer.next_token.Given as goal
 
--- there is no token from the offset up to here
+-- there is no token between the first offset and the current one
 abbrev pub invariant-loop-at : goal.invariant-loop-at
 invariant-loop-at l = record {
   found : (ts : List Token) → FoundBefore l.text ts l.initial.at → FoundBefore l.text ts l.at;

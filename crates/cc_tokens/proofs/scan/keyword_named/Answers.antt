@@ -1,4 +1,4 @@
--- It is enough to search those that begin with the first byte.
+-- It is enough to search the keywords that begin with the first byte.
 use Rattle.std.proofs.Common.{◌∙◌, ap}
 use Rattle.std.specs.List.{find}
 use Rattle.std.specs.Str.{bytes_eq}

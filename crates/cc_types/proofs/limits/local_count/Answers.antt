@@ -1,4 +1,4 @@
--- No local is past the largest number.
+-- No local is past the largest number that a `usize` can hold.
 use Rattle.cc_ast.specs.Erase.{statements_of}
 use Rattle.cc_types.specs.Limits.{locals}
 use Rattle.cc_types.proofs.Counting.{count-is}

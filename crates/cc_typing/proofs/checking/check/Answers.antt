@@ -1,5 +1,5 @@
--- If there is an error, the first one is reported at its place; else a missing main is; else the first call of an undefined
--- function is; else the unit is typed.
+-- If there is an error, the first one is reported at its place; else a missing `main` is reported; else the first call of
+-- an undefined function; else the unit is typed.
 use Rattle.std.proofs.Common.{◌≡◌, ◌∙◌, inr, ap, sym, length, true, false, Some, None}
 use Rattle.cc_ast.specs.Source.{source}
 use Rattle.cc_tokens.specs.Place.{place_of}

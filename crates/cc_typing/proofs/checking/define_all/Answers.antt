@@ -1,4 +1,4 @@
--- The declarations are looked through one by one.
+-- The declarations are examined one by one.
 use Rattle.std.proofs.Common.{◌+◌, ap, sym, ◌∙◌, drop, [], ◌≡◌}
 use Rattle.std.proofs.Math.ListN.{drop_of_length-le}
 use Rattle.cc_ast.specs.Erase.{external_trees}

@@ -1,4 +1,4 @@
--- The walk over file scope begins with the builtins, and knows all definitions.
+-- The walk over file scope begins with the builtins, and with all the unit's definitions known.
 use Rattle.std.proofs.Common.{◌∙◌}
 use Rattle.cc_ast.specs.Erase.{external_trees}
 use Rattle.cc_typing.proofs.Verdict.{first-are, undefined-are}

@@ -1,4 +1,5 @@
--- Through the moves after, the operation, and, with the operands, through the moves before.
+-- The set goes back through the moves after the operation, the operation and, with the operands' equations,
+-- the moves before it.
 use Rattle.std.proofs.Common.{List, subst, sym}
 use Rattle.cc_flow.specs.Lattice.{Equivalent}
 use Rattle.cc_rtl_language.specs.Code.{node_of}

@@ -1,4 +1,4 @@
--- All rows are put in.
+-- The bits of all rows are in the new table.
 use Rattle.std.proofs.Common.{ℕ, ◌<◌, List, get_or, sym, subst, arith}
 use Rattle.cc_validate.specs.internal.Room.{most_places}
 use Rattle.cc_validate.proofs.Sending.{origins_low, rows_sent, sent_equations, sent_carried}

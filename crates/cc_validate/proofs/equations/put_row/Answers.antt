@@ -1,4 +1,4 @@
--- One more column.
+-- The bit of one more column is set.
 use Rattle.std.proofs.Common.{◌∙◌, ◌+◌, ◌<◌, ◌≡◌, ◌⊎◌, sym, subst, IsTrue}
 use Rattle.cc_bits.specs.Rows.{has, Table}
 use Rattle.cc_validate.specs.internal.Origins.{AreSent}

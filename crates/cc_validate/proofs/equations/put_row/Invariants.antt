@@ -1,4 +1,4 @@
--- The bits of the rows so far, and of this row's columns so far, are put in.
+-- The bits of the rows so far, and of this row's columns so far, are in the new table.
 use Rattle.std.proofs.Common.{◌≡◌, ◌<◌, ◌⊎◌, IsTrue}
 use Rattle.cc_bits.specs.Rows.{has}
 use Rattle.cc_validate.specs.internal.Origins.{AreSent}

@@ -1,4 +1,4 @@
--- One, and then the other.
+-- One equation is added, and then the other.
 use Rattle.std.proofs.Common.{◌∷◌, []}
 use Rattle.cc_ltl.specs.declared.location.Location.TheVariants.{Register}
 use Rattle.cc_validate.specs.Equations.{equation}

@@ -1,4 +1,4 @@
--- One more argument.
+-- The equation of one more argument is added.
 use Rattle.std.proofs.Common.{◌≡◌, ◌∙◌, ◌+◌, ◌++◌, ◌∷◌, [], ℕ, List, take, get_or, length, refl, sym, ap, subst, arith}
 use Rattle.std.proofs.lemmas.List.{take_more, take_all, length-take}
 use Rattle.cc_ltl.specs.declared.location.Location.TheVariants.{Register}

@@ -1,4 +1,4 @@
--- The equations of the arguments so far are in.
+-- The equations of the arguments so far have been added.
 use Rattle.std.proofs.Common.{◌≡◌, ◌+◌, take}
 use Rattle.cc_validate.specs.Equations.{in_order}
 use Rattle.cc_validate.specs.internal.Carried.{AreWith}

@@ -1,4 +1,4 @@
--- One more move.
+-- The table after one more move.
 use Rattle.std.proofs.Common.{◌≡◌, ◌∙◌, ◌+◌, ◌++◌, ◌∷◌, [], List, take, get_or, length, set, sym, ap, subst, arith, ◌<◌}
 use Rattle.std.proofs.lemmas.List.{get_or_read, take_more, take_all}
 use Rattle.cc_ltl.specs.Ltl.{target, source}

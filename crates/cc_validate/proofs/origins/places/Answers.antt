@@ -1,4 +1,4 @@
--- One more number; all of them.
+-- One more number is added; at the end, all of them are in the table.
 use Rattle.std.proofs.Common.{◌≡◌, ◌∙◌, ◌++◌, ◌∷◌, [], List, ℕ, ap, sym, subst, arith}
 use Rattle.std.specs.List.{range_with_len}
 use Rattle.cc_validate.specs.internal.Origins.{AreOrigins}

@@ -1,4 +1,4 @@
--- Each call below this one has one block less to take.
+-- Each call below this one has one block less to use.
 use Rattle.cclib.proofs.stack.+touch.Given as goal
 
 abbrev pub decreases-touch : goal.decreases-touch

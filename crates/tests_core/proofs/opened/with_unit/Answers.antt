@@ -1,4 +1,4 @@
--- The added unit is a piece's, and the type of pieces keeps that it is right.
+-- The added unit is that of a piece, and the type of pieces keeps that it is right.
 use Rattle.std.proofs.Common.{◌≡◌, sym, ap, subst, ◌∙◌}
 use Rattle.std.specs.Arc.{arc_value}
 use Rattle.cc_unit.specs.declared.unit.StoredUnit.{StoredUnit}

@@ -1,4 +1,4 @@
--- What the library's opening says about each image holds of the bytes themselves.
+-- What the library's opening says about each image holds for the bytes themselves.
 use Rattle.tests_service.proofs.helpers.opened.Goals as goal
 
 pub returns-in-Ok : goal.returns-in-Ok

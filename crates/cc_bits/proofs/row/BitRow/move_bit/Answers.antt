@@ -8,7 +8,7 @@ use Rattle.cc_bits.proofs.Bits.{removed_at, moved_on}
 use Rattle.cc_bits.proofs.Written.{written, written_long}
 use Rattle.cc_bits.proofs.row.BitRow.move_bit.Goals as goal
 
--- the word without that bit
+-- the word with this bit cleared
 abbrev cleared : (bit word : ℕ) → ℕ
 cleared bit word = bit_and word (bit_not w64 (1 * 2 ^ bit % 2 ^ 64))
 

@@ -1,4 +1,4 @@
--- Words of equal width are joined. If a number was missing, the bit with this number was missing.
+-- Words of equal width are joined. If a number was missing, so was the bit with that number.
 use Rattle.std.proofs.Common.{◌≡◌, ◌∙◌, ◌&&◌, ◌||◌, ◌*◌, ◌≤◌, ap, sym, subst, arith, ℕ, List, length, nat_lt, IsTrue, IsFalse}
 use Rattle.std.proofs.Math.Nat.{mul-le-mul_left}
 use Rattle.cc_bits.specs.Rows.{has, holds, key, Table, most_rows}

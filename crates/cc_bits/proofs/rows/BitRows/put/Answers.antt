@@ -1,4 +1,4 @@
--- The bit's number is put in, and it lies before the end of the last row.
+-- The bit's number is added, and lies before the end of the last row.
 use Rattle.std.proofs.Common.{◌∙◌, ◌&&◌, ◌||◌, ◌==◌, ◌*◌, ◌<◌, ◌≤◌, ap, subst, sym, arith, length, List, ℕ}
 use Rattle.std.proofs.Math.Nat.{mul-le-mul_left}
 use Rattle.cc_bits.specs.Rows.{has, Table, most_rows}

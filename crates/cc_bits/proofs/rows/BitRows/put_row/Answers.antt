@@ -1,4 +1,4 @@
--- The bit of one more column is put in.
+-- The bit of one more column is added.
 use Rattle.std.proofs.Common.{◌∙◌, ◌+◌, ◌&&◌, ◌==◌, ap, sym, subst, ℕ}
 use Rattle.cc_bits.specs.Rows.{has, Table}
 use Rattle.cc_bits.proofs.Lines.{PutBefore, row_put, row_skipped}

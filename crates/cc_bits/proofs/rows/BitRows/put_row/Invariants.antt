@@ -1,4 +1,4 @@
--- The bits of the columns so far are set in that row, and no other row has changed.
+-- The bits of the columns so far are set in row `r`, and no other row has changed.
 use Rattle.std.proofs.Common.{◌≡◌, ℕ, ◌&&◌, ◌==◌}
 use Rattle.cc_bits.specs.Rows.{has}
 use Rattle.cc_bits.proofs.Lines.{PutBefore}

@@ -1,4 +1,4 @@
--- What holds for everything that is reached holds for this state.
+-- This state is reached, so what holds for all reached contents holds for it.
 use Rattle.std.proofs.Common.{subst, All, Contains}
 use Rattle.cc_core.specs.Run.{AreRising, EachImageSurvives, EachImageIsRight}
 use Rattle.cc_core.proofs.Sound.{reached_IsSound, sound_survives}

@@ -1,4 +1,4 @@
--- What holds for everything that is reached holds for this state.
+-- This state is reached, so what holds for all reached contents holds for it.
 use Rattle.std.proofs.Common.{◌≡◌, subst}
 use Rattle.std.specs.FinMap.{empty}
 use Rattle.cc_library.specs.Apply.{AreAccepted}

@@ -1,4 +1,4 @@
--- A step goes on from contents that are reached, which have what a step needs; after an error the contents are the same.
+-- A step begins at reachable contents, which meet what a step requires; an error leaves the contents unchanged.
 use Rattle.cc_core.proofs.Runs.{Reached-step}
 use Rattle.cc_core.proofs.Sound.{reached_IsSound, sound_ready}
 use Rattle.cc_core.proofs.Whole.{lawful}

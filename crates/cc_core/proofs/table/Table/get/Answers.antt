@@ -1,4 +1,4 @@
--- Looking up a key in the map of entries is looking it up in the finite map.
+-- A look-up in the map of entries is a look-up in the finite map.
 use Rattle.std.proofs.Common.{sym, ap, ◌∙◌}
 use Rattle.std.specs.Cmp.{nat_cmp_total}
 use Rattle.std.specs.FinMap as map

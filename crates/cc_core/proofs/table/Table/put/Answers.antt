@@ -1,4 +1,4 @@
--- Inserting an entry into the map of entries is inserting it into the finite map.
+-- An insertion into the map of entries is an insertion into the finite map.
 use Rattle.std.proofs.Common.{ap, ◌∙◌}
 use Rattle.std.specs.Cmp.{nat_cmp_total}
 use Rattle.std.specs.FinMap as map

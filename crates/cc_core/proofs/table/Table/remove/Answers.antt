@@ -1,4 +1,4 @@
--- Removing an entry from the map of entries is removing it from the finite map.
+-- A removal from the map of entries is a removal from the finite map.
 use Rattle.std.proofs.Common.{ap, ◌∙◌}
 use Rattle.std.specs.Cmp.{nat_cmp_total}
 use Rattle.std.specs.FinMap as map

@@ -1,5 +1,5 @@
--- `and` makes the struct whose only field has no size, with one more item. Written by hand, because the struct's list of items is
--- not a value of the machine.
+-- `and` makes the struct whose only field has size zero, with one more item. Written by hand, because the struct's list of items
+-- is not a value of the machine.
 use Rattle.std.proofs.Common.{List, [], ◌∷◌, ◌++◌, refl}
 use seplogic.Ra.Ura.{Ura}
 use mir.Syntax.{Fn, Args, a_type}

@@ -1,5 +1,5 @@
--- `new` makes the struct whose only field has no size, without items. Written by hand, because the struct's list of items is not
--- a value of the machine.
+-- `new` makes the struct whose only field has size zero, without items. Written by hand, because the struct's list of items is
+-- not a value of the machine.
 use Rattle.std.proofs.Common.{[], ◌∷◌, refl}
 use seplogic.Ra.Ura.{Ura}
 use mir.Syntax.{Fn, Args, a_type}

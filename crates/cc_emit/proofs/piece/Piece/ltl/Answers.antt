@@ -1,4 +1,4 @@
--- This follows from what the type of a piece keeps.
+-- The clauses follow from what the type of a piece keeps.
 use Rattle.std.proofs.Common.{subst}
 use Rattle.cc_linear_language.specs.Pair.{LtlKeepsUp}
 use Rattle.cc_emit.specs.Piece.{Piece, tree_of}

@@ -1,4 +1,4 @@
--- A node that leads to this one is in its row.
+-- Each node that leads to this one is in this node's row of predecessors.
 use Rattle.std.proofs.Common.{sym, ap, ◌∙◌, subst, Contains}
 use Rattle.cc_flow.specs.Flow.{successors_of, rows_of}
 use Rattle.cc_flow.proofs.graph.Graph.predecessors.Goals as goal

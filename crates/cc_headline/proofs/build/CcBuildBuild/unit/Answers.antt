@@ -1,4 +1,4 @@
--- Pieces are linked in the first one's mode and for its unit.
+-- Pieces are linked in the mode of the first piece and for its unit.
 use Rattle.std.proofs.Common.{◌≡◌, ℕ, ◌≤◌, Bool, true, false, if◌then◌else◌, List, [], ◌∷◌, length, get_or, Ok, Err, refl, sym, ap, ◌∙◌, arith}
 use mathlib.Core.Bool.{not}
 use Rattle.std.specs.Arc.{arc_value}

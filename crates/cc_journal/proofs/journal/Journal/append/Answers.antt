@@ -1,4 +1,4 @@
--- Without a device call the records stay, as the log says about itself; if a device call was made, the log's clauses are the
+-- Without a device call the records stay, as the log's clauses say; if a device call was made, the log's clauses give the
 -- journal's.
 use Rattle.std.proofs.Common.{◌≡◌, ◌≤◌, [], ◌∷◌, ◌++◌, false, IsTrue, Err, refl, subst, arith}
 use Rattle.std.proofs.lemmas.Result.{err_from_is_err_and}

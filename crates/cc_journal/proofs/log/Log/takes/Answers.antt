@@ -1,5 +1,5 @@
--- If no call is made the records stay. With one more record, the area also has to hold its body and 6 more bytes, one of them the
--- closed gate.
+-- If no call is made, the records stay. One more record fits exactly if the area still has room for its body and 6 more bytes,
+-- one of them the closed gate.
 use Rattle.std.proofs.Common.{◌≡◌, ◌<◌, ◌≤◌, ℕ, List, [], ◌∷◌, ◌++◌, false, IsTrue, refl, subst, arith}
 use Rattle.cc_disk.specs.Images.{LeavesOnly}
 use Rattle.cc_journal.specs.Format.{HoldsOldOrNew, room_of}

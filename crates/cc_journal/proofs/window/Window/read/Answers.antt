@@ -4,7 +4,7 @@ use Rattle.std.proofs.lemmas.Grind.{common_steps}
 use Rattle.cc_journal.proofs.Ahead.{filled, read_as, shown_and_read}
 use Rattle.cc_journal.proofs.window.Window.read.Goals as goal
 
--- the first bytes are the window's, followed by what was read
+-- the bytes are those of the window, followed by those that were read
 pub returns-clause-read : goal.returns-clause-read
 returns-clause-read g c = λ h.
     let S = g.D.Disk.seen c.args.disk.now in

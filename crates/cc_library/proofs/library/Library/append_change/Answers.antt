@@ -1,4 +1,5 @@
--- Without a device call every image recovers to the old map; during the `append`, to the old map or to the one after it.
+-- Without a device call every image recovers to the old map; during the `append` it recovers to the old map or to the
+-- one after the change.
 use Rattle.std.proofs.Common.{◌≡◌, ◌+◌, ◌≤◌, length, List, [], ◌∷◌, ◌++◌, ℕ, false, refl, sym, ◌∙◌, ap, subst}
 use Rattle.std.specs.Prelude.{IsOk, Result, Ok, Err}
 use Rattle.std.proofs.lemmas.Result.{err_from_is_err_and}

@@ -1,4 +1,4 @@
--- The clause of the private call also has the records of each image; here the maps are enough.
+-- The clause of the private call also says which records each image has; here the maps are enough.
 use Rattle.std.proofs.Common.{[], ◌∷◌, ◌++◌}
 use Rattle.cc_library.specs.Apply.{after}
 use Rattle.cc_library.specs.Body.{body_of}

@@ -1,4 +1,4 @@
--- The clause of the private call also has the records of each image; here the map is enough.
+-- The clause of the private call also says which records each image has; here the map is enough.
 use Rattle.cc_library.specs.Compact.{compacted}
 use Rattle.cc_library.specs.Recovered.{RecoversAlone}
 use Rattle.cc_library.proofs.Standing.{map_stays}

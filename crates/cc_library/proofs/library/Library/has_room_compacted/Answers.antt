@@ -1,4 +1,5 @@
--- The record has room after the compacted records exactly if these leave enough; a `compact` leaves exactly these records.
+-- The record fits after the compacted records exactly if these leave enough room; a `compact` leaves exactly these
+-- records.
 use Rattle.std.proofs.Common.{◌≡◌, ℕ, ◌-◌, ◌≤◌, IsTrue, Bool, false, sym, ◌∙◌, ap, subst, arith}
 use Rattle.cc_library.specs.Answers.{room_with}
 use Rattle.cc_library.specs.Body.{body_of}
@@ -9,7 +10,7 @@ use Rattle.cc_library.proofs.Compacting.{no_room_left, room_left}
 use Rattle.cc_library.proofs.library.Library.has_room_compacted.Given.{Over}
 use Rattle.cc_library.proofs.library.Library.has_room_compacted.Goals as goal
 
--- what holds for the records and their room holds for the library that a `compact` leaves
+-- an answer about the room after the compacted records is an answer about the library that a `compact` leaves
 of_compacted : {D : Type 0} (old new : View D) (command : LibraryCommand) (b : Bool) → new ≡ record { disk = new.disk; area = old.area; bodies = compacted old.units; units = old.units; closed = false }
     → (IsTrue b → room_compacted old.units command ≤ old.area) × (room_compacted old.units command ≤ old.area → IsTrue b)
     → (IsTrue b → room_with new command ≤ new.area) × (room_with new command ≤ new.area → IsTrue b)

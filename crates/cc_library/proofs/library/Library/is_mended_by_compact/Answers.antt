@@ -1,4 +1,5 @@
--- The log says whether the record fits now, and the library whether it fits after compacted records.
+-- The log says whether the record fits now, and the library says whether it would fit after the compacted
+-- records.
 use Rattle.std.proofs.Common.{◌<◌, ◌≤◌, sym, ◌∙◌, subst, arith}
 use Rattle.std.specs.Prelude.{IsOk}
 use Rattle.cc_library.specs.Answers.{IsAsked, IsMended, room_with}

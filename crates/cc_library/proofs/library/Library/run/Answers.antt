@@ -1,4 +1,5 @@
--- Each turn does one more edit and keeps its number; after the last all edits are done.
+-- Each turn carries out one more edit and keeps its number; after the last turn all edits have been carried
+-- out.
 use Rattle.std.proofs.Common.{◌≡◌, ◌+◌, ◌++◌, ◌∷◌, [], List, ℕ, inr, false, IsTrue, length, vec_len, ap, sym, subst, ◌∙◌, append_assoc, length-append, refl, arith}
 use Rattle.std.proofs.lemmas.List.{append-nil, nil_from_length}
 use Rattle.cc_library.specs.declared.command.Edit.{Edit}
@@ -12,7 +13,7 @@ use Rattle.cc_library.proofs.Refused.{still_map}
 use Rattle.cc_library.proofs.Running.{one_edit_more, folds, stays_open, among_none, among_more, among_all, among_next}
 use Rattle.cc_library.proofs.library.Library.run.Goals as goal
 
--- after the last edit, none is left
+-- if no edits are left, those taken are all the edits
 all_taken : (taken rest edits : List Edit) (n : ℕ) → n ≡ length rest → n ≡ 0 → taken ++ rest ≡ edits → taken ≡ edits
 all_taken taken rest edits n counted none parts =
     let nothing : rest ≡ [] = nil_from_length rest (sym counted ∙ none) in

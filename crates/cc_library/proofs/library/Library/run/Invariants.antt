@@ -1,4 +1,5 @@
--- So far the edits that were taken are done, each moment left the map after some of them, and there is room for all numbers.
+-- The edits taken so far have been carried out, a crash at each moment left the map after some of them, and there is room
+-- for all numbers.
 use Rattle.std.proofs.Common.{◌≡◌, ◌≤◌, ◌++◌, false, IsTrue, length, vec_capacity}
 use Rattle.cc_disk.specs.Images.{LeavesOnly}
 use Rattle.cc_library.specs.Runs.{AreEdited, RecoversAmong}

@@ -1,4 +1,4 @@
--- The records of the log lead to the map, so those of a compaction take no more than they do.
+-- The records of the log lead to the map, so the records of a compaction take no more room.
 use Rattle.std.proofs.Common.{◌≡◌, IsTrue, false, sym, ◌∙◌, subst, arith}
 use Rattle.cc_journal.specs.Format.{AllHold}
 use Rattle.cc_library.specs.Recovered.{View}

@@ -1,5 +1,5 @@
--- Without a device call every image still recovers to the map; during the `rewrite` it has the old records or the new ones, and both
--- represent the map.
+-- Without a device call every image still recovers to the map; during the `rewrite` an image has the old records or the new ones,
+-- and both represent the map.
 use Rattle.std.proofs.Common.{◌≡◌, ◌<◌, ◌≤◌, ℕ, Bool, IsTrue, List, false, refl, sym, ◌∙◌, ap, subst, arith}
 use Rattle.std.specs.Prelude.{Result, Ok, Err}
 use Rattle.std.proofs.lemmas.Result.{err_from_is_err_and}

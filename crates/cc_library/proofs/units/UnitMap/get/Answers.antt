@@ -1,4 +1,4 @@
--- The look-up in the map of entries is the look-up in the finite map.
+-- A look-up in the map of entries is a look-up in the finite map.
 use Rattle.std.proofs.Common.{sym, ap, ◌∙◌, Some}
 use Rattle.std.specs.Cmp.Lexicographic.{nat_list_cmp_total}
 use Rattle.std.specs.FinMap as map

@@ -1,4 +1,4 @@
--- The entries of the tree are the entries of the finite map, and each turn takes one over.
+-- The entries of the tree are the entries of the finite map, and each turn takes the next one.
 use Rattle.std.proofs.Common.{◌≡◌, ℕ, ◌+◌, ◌≤◌, length, length-append, arith, refl, List, ap, sym, ◌∙◌, subst, append_assoc, ◌++◌, ◌∷◌, [], Some}
 use Rattle.std.proofs.lemmas.List.{append-nil}
 use Rattle.std.specs.Cmp.Lexicographic.{nat_list_cmp_total}

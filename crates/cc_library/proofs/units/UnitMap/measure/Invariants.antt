@@ -5,7 +5,7 @@ use Rattle.cc_unit.specs.declared.unit.StoredUnit.{StoredUnit}
 use Rattle.cc_library.specs.Compact.{adds, bodies_of}
 use Rattle.cc_library.proofs.units.UnitMap.measure.Given as goal
 
--- the bytes so far are those of the entries that were taken, and so is the number of names
+-- the bytes and the names counted so far are those of the entries taken so far
 abbrev pub invariant-loop-name : goal.invariant-loop-name
 invariant-loop-name l =
     (taken : List (List ℕ × StoredUnit)) × (taken ++ l.name-iterator ≡ entries l.self) × (l.bytes + 1 ≡ room_of (bodies_of (adds taken))) × (l.bytes ≤ 2 ^ 30)

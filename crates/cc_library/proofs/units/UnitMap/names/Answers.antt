@@ -1,4 +1,4 @@
--- The keys of the entries are the keys of the finite map, and each turn takes one over.
+-- The keys of the entries are the keys of the finite map, and each turn takes the next one.
 use Rattle.std.proofs.Common.{◌≡◌, ap, sym, ◌∙◌, append_assoc, ◌++◌, ◌∷◌, [], take}
 use Rattle.std.proofs.lemmas.List.{append-nil}
 use Rattle.std.specs.Cmp.Lexicographic.{nat_list_cmp_total}

@@ -1,4 +1,4 @@
--- The insertion of an entry is the insertion into the finite map, and only an absent key takes memory.
+-- Inserting an entry is an insertion into the finite map, and only an absent key needs memory.
 use Rattle.std.proofs.Common.{ap, ◌∙◌}
 use Rattle.std.specs.Prelude.{is_some}
 use Rattle.std.specs.Cmp.Lexicographic.{nat_list_cmp_total}

@@ -1,4 +1,4 @@
--- The removal of an entry is the removal from the finite map.
+-- Removing an entry is a removal from the finite map.
 use Rattle.std.proofs.Common.{ap, ◌∙◌}
 use Rattle.std.specs.Cmp.Lexicographic.{nat_list_cmp_total}
 use Rattle.std.specs.FinMap as map

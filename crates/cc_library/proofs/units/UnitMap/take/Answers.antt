@@ -1,4 +1,4 @@
--- The removal of an entry is the removal from the finite map, and gives back what was there.
+-- Removing an entry is a removal from the finite map, and returns the unit that was there.
 use Rattle.std.proofs.Common.{ap, sym, ◌∙◌}
 use Rattle.std.specs.Prelude.{is_some}
 use Rattle.std.specs.Cmp.Lexicographic.{nat_list_cmp_total}

@@ -1,4 +1,4 @@
--- What the type keeps, and what follows from it.
+-- The clauses say what the pair's type keeps, or follow from that.
 use Rattle.std.proofs.Common.{subst}
 use Rattle.cc_linear_language.specs.Pair.{Pair, tree_of, KeepsUp}
 use Rattle.cc_linear_language.proofs.Layer.{follows_of}

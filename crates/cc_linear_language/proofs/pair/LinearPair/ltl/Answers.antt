@@ -1,4 +1,4 @@
--- What the type keeps.
+-- The clauses say what the pair's type keeps.
 use Rattle.std.proofs.Common.{subst}
 use Rattle.cc_linear_language.specs.Pair.{Pair, tree_of, LtlKeepsUp}
 use Rattle.cc_linear_language.proofs.pair.LinearPair.ltl.Goals as goal

@@ -1,7 +1,7 @@
 use Rattle.std.proofs.Common.{◌≡◌, ◌++◌, reverse, vec_len}
 use Rattle.cc_meaning.proofs.emitter.Emitter.finish.Given as goal
 
--- what has been appended, with what is left, is what is to be appended
+-- the instructions appended so far, followed by those that are left, are all that must be appended
 abbrev pub invariant-loop-instruction : goal.invariant-loop-instruction
 invariant-loop-instruction l = l.code.items ++ reverse l.self-inside.items.items ≡ l.initial.code.items ++ reverse l.initial.self-inside.items.items
 

@@ -1,4 +1,5 @@
--- The place of an instruction, counted from the other end.
+-- The instructions are kept with the last one first, so the place of an instruction is counted from the other
+-- end.
 use Rattle.std.proofs.Common.{◌≡◌, ◌<◌, ◌+◌, ◌-◌, ◌∙◌, length, set, sym, ap, arith}
 use Rattle.std.proofs.lemmas.List.{length-reverse}
 use Rattle.cc_meaning.proofs.Emitting.{reverse-set}

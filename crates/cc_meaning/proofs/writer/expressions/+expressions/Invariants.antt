@@ -4,7 +4,7 @@ use Rattle.cc_ast.specs.internal.Arguments.{expressions_of}
 use Rattle.cc_meaning.specs.internal.Form.{arguments_code}
 use Rattle.cc_meaning.proofs.writer.expressions.+expressions.Given as goal
 
--- the arguments from this number on are written
+-- the arguments from number `left` on are written
 abbrev pub invariant-arguments-loop-left : goal.invariant-arguments-loop-left
 invariant-arguments-loop-left l = record {
   inside : l.left ≤ length l.trees;
@@ -14,7 +14,8 @@ invariant-arguments-loop-left l = record {
 abbrev pub decreases-arguments-loop-left : goal.decreases-arguments-loop-left
 decreases-arguments-loop-left l = l.left
 
--- the depth decreases from an expression to its parts; a function that takes several parts counts in between
+-- the size decreases from an expression to its parts; the measure of a list of arguments lies between that of
+-- the call and those of the arguments
 abbrev pub decreases-expression : goal.decreases-expression
 decreases-expression l = 2 * the_size l.tree.now
 

@@ -1,4 +1,4 @@
--- The form of the unit.
+-- The result is the form of the unit.
 use Rattle.cc_ast.specs.Erase.{external_trees}
 use Rattle.cc_meaning.proofs.WritingUnits.{form-is}
 use Rattle.cc_meaning.proofs.writer.units.resolve.Goals as goal

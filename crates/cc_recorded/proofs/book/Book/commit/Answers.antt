@@ -1,5 +1,5 @@
--- The calls of the library with its history say what the core and a crash see of them; that is enough for all that the type
--- keeps.
+-- The contract of the library with its history says what the core and a crash see of a call; everything that the type keeps
+-- follows.
 use Rattle.std.proofs.Common.{IsTrue, List, sym, subst}
 use Rattle.cc_headline.specs.Compiling.{compiling, Keeps}
 use Rattle.cc_recorded.specs.Book.{BookView}

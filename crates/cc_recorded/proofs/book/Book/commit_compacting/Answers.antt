@@ -1,4 +1,5 @@
--- Each call keeps the type of the book. A commit after a compaction is made on the book that the compaction left.
+-- Each call keeps what the book's type keeps. A commit after a compaction is made on the book that the compaction
+-- left.
 use Rattle.std.proofs.Common.{inr, [], ◌∷◌}
 use Rattle.cc_recorded.proofs.Mending.{commits_at_once, commits_behind, not_compacted, noted_twice}
 use Rattle.cc_recorded.proofs.book.Book.commit_compacting.Goals as goal

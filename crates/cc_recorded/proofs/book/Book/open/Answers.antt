@@ -1,4 +1,5 @@
--- What the library's opening says about the disk that was handed in holds for the one handed out, whose bytes are the same.
+-- What the library's opening says about the disk that was handed in holds for the disk handed out, whose bytes are the
+-- same.
 use Rattle.std.proofs.Common.{◌∙◌, ◌≤◌, List, ℕ, ap, sym, subst}
 use Rattle.cc_journal.specs.Format.{HoldsRecords}
 use Rattle.cc_recorded.specs.Book.{BookView}

@@ -1,4 +1,4 @@
--- The book's library is that of the library with its history.
+-- The answer is about the book's library.
 use Rattle.std.proofs.Common.{IfOk, IsTrue, subst}
 use Rattle.cc_journal.specs.Format.{AllHold}
 use Rattle.cc_recorded.specs.Answers.{SpaceAnswers}

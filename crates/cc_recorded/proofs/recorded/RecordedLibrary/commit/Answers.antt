@@ -1,5 +1,6 @@
--- Three exits put an entry in: those with a receipt. At each of them `entering` shows that what the types of the book and the
--- client keep still holds, and that the call is recorded. After the device has failed, the book keeps the change that failed.
+-- Three exits put an entry into the history: those with a receipt. At each of them `entering` shows that what the types of
+-- the book and the client keep still holds, and that the call is recorded. After the device has failed, the book keeps the
+-- change that failed.
 use Rattle.std.proofs.Common.{◌≡◌, ◌+◌, ◌≤◌, false, IsTrue, List, [], ◌∷◌, ◌++◌, length, refl, sym, ap, ◌∙◌, subst}
 use Rattle.cc_disk.specs.Images.{LeavesOnly}
 use Rattle.cc_library.specs.Change.{LibraryCommand}

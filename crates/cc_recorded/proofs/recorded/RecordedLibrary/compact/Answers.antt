@@ -1,4 +1,5 @@
--- A compaction of the library, as the book sees it: the map stays, and if the device was called, no change has failed.
+-- A compaction of the library, as the book sees it: the map is unchanged, and if the device was called, no change has
+-- failed.
 use Rattle.std.proofs.Common.{◌≡◌, false, List, IsTrue, Result, Ok, Err, sym, ap, subst}
 use Rattle.cc_library.specs.Apply.{Units}
 use Rattle.cc_library.specs.Change.{LibraryCommand}

@@ -1,5 +1,5 @@
--- If all receipts match and there are as many as entries, the rest follows from `receipts_count_up`. If there are not as many,
--- there are fewer, since each receipt has an entry of its own.
+-- If all receipts match and there are as many receipts as entries, the rest follows from `receipts_count_up`. If the numbers
+-- differ, there are fewer receipts, since each receipt has an entry of its own.
 use Rattle.std.proofs.Common.{◌≡◌, ◌≢◌, inl, inr, true, false, length, sym, ap, ◌∙◌, rules, map}
 use Rattle.std.proofs.lemmas.Bool.{eq-eqb, eqb-true}
 use Rattle.cc_history.specs.Closing.{AreApart, ReceiptsStand, receipts_of}

@@ -1,4 +1,5 @@
--- Only one exit puts an entry in; `entering` shows what it owes, as for a commit. A look-up hands in no unit and changes nothing.
+-- Only one exit puts an entry into the history; `entering` shows what has to hold there, as for a commit. A look-up hands in no
+-- unit and changes nothing.
 use Rattle.std.proofs.Common.{◌≡◌, ◌+◌, List, [], ◌∷◌, ◌++◌, length, refl, sym, ap, ◌∙◌, subst}
 use Rattle.cc_library.specs.Change.{LibraryCommand}
 use Rattle.cc_library.specs.Apply.{after_all}

@@ -1,4 +1,4 @@
--- What the library says, while the device has not failed.
+-- If the device has not failed, the answer is that of the library.
 use Rattle.std.proofs.Common.{◌≡◌, true, false, IsTrue, refl, sym, ◌∙◌, subst}
 use Rattle.cc_journal.specs.Format.{AllHold}
 use Rattle.cc_library.specs.Space.{IsSpace}

@@ -1,4 +1,4 @@
--- One more object, with its name and where its words are.
+-- One more object is added, with its name and the place of its words.
 use Rattle.std.proofs.Common.{◌∙◌, [], ◌∷◌, ◌++◌, ap, sym}
 use Rattle.cc_resolve.specs.Numberings.{laid_objects}
 use Rattle.cc_resolve.specs.Layout.{Layout}

@@ -1,4 +1,4 @@
--- The words of the first object with this name.
+-- The extent is that of the first object with this name.
 use Rattle.std.proofs.Common.{◌≡◌, ◌<◌, ◌∙◌, length, vec_len, Some, None, ap, arith}
 use Rattle.std.proofs.lemmas.List.{get_or_default}
 use Rattle.cc_resolve.specs.Layout.{Layout, extent_of}

@@ -1,4 +1,4 @@
--- The table has the name's first place at the name's number: the old one if there was one, else the next.
+-- The table has the name's first place at the name's number: the old place if there was one, else the next.
 use Rattle.std.proofs.Common.{◌∙◌, ◌++◌, ◌∷◌, [], length, ap, subst, sym, nat_eq}
 use Rattle.std.specs.Map.{lookup}
 use Rattle.indexmap.specs.IndexMap.{get}

@@ -1,4 +1,4 @@
--- The statements of a list, from last to first.
+-- The nodes of a list's statements are made from the last statement to the first.
 use Rattle.std.proofs.Common.{◌≡◌, ◌∙◌, ◌+◌, ◌≤◌, IfOk, OnOk, length, reverse, drop, refl, sym, ap, subst, arith, rules}
 use Rattle.std.proofs.lemmas.Iterator.Adapters.{YieldsList-from_rev_slice}
 use Rattle.std.proofs.lemmas.Iterator.Consumers.{YieldsList-turn, YieldsList-end}

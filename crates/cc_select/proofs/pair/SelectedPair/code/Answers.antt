@@ -1,4 +1,4 @@
--- What the type keeps.
+-- The clauses follow from what the pair's type keeps.
 use Rattle.std.proofs.Common.{subst}
 use Rattle.cc_select.specs.Pair.{Pair, tree_of, KeepsUp}
 use Rattle.cc_select.proofs.pair.SelectedPair.code.Goals as goal

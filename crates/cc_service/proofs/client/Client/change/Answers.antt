@@ -1,4 +1,4 @@
--- A change that compacts if this makes room is a plain change, or comes after a compaction.
+-- A change that may compact first is a plain change, or comes after a compaction.
 use Rattle.std.proofs.Common.{◌⊎◌, subst}
 use Rattle.cc_recorded.specs.Changed.{IsBookChanged}
 use Rattle.cc_recorded.specs.Compacting.{IsCompactedFor}

@@ -1,4 +1,4 @@
--- A look at the name, and what comes after it.
+-- The name is looked up; what follows depends on what was found.
 use Rattle.std.proofs.Common.{◌≡◌, List, ℕ, [], inr, Err, Ok, refl, rules, subst, sym}
 use Rattle.cc_history.specs.declared.command.Asked.TheVariants.{Fetch}
 use Rattle.cc_library.specs.declared.command.Change.TheVariants.{Replace}

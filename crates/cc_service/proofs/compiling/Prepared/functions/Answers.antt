@@ -1,4 +1,4 @@
--- The tree of its text is the unit's.
+-- The tree of the prepared text is the unit's tree.
 use Rattle.std.proofs.Common.{◌≡◌, ◌∙◌, List, length, ap, subst}
 use Rattle.std.specs.Arc.{arc_value}
 use Rattle.cc_ast.specs.Source.{source}

@@ -1,4 +1,4 @@
--- What was done under the lock, to a book that keeps what every book keeps.
+-- The change was made under the lock, to a book that keeps what every book of the service keeps.
 use Rattle.std.proofs.Common.{Ok, subst}
 use Rattle.cc_recorded.specs.Promise.{IsSound}
 use Rattle.cc_recorded.specs.Since.{BookSince}

@@ -1,4 +1,4 @@
--- What was done under the lock, to a book that keeps what every book keeps.
+-- The update was made under the lock, to a book that keeps what every book of the service keeps.
 use Rattle.std.proofs.Common.{subst}
 use Rattle.cc_library.specs.declared.command.Change.TheVariants.{Replace}
 use Rattle.cc_recorded.specs.Promise.{IsSound}

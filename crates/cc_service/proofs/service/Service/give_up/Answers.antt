@@ -1,4 +1,4 @@
--- What the book under the lock says.
+-- The answer is that of the book under the lock.
 use Rattle.std.proofs.Common.{List, subst, sym}
 use Rattle.cc_recorded.specs.Promise.{IsGivenUp}
 use Rattle.cc_service.specs.Client.{ClientView, members}

@@ -1,4 +1,5 @@
--- If a text is handed in, what is put is a unit of it; if it cannot be handed in, it is refused like one that was not compiled.
+-- If the text is handed in, what is put is its unit; if it cannot be handed in, the answer is that for a text that was not
+-- compiled.
 use Rattle.std.proofs.Common.{ℕ, IsTrue, List, refl, sym, ap, subst}
 use Rattle.cc_library.specs.Name.{is_name}
 use Rattle.cc_c_semantics.specs.declared.mode.Mode.{Mode}

@@ -1,4 +1,4 @@
--- Each name is audited in its turn; the last call is for the first name that was not audited.
+-- The names are audited in turn; the last call is for the first name whose audit says nothing.
 use Rattle.std.proofs.Common.{◌≡◌, Bool, false, Ok, rules, subst}
 use Rattle.cc_session.specs.Playing.{talk}
 use Rattle.cc_session.specs.internal.Calls.{AuditsName}

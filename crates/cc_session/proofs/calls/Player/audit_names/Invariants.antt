@@ -1,4 +1,4 @@
--- If the names from here on are audited, this makes up an audit of all, with what was audited before.
+-- If the names from here on are audited, then, with those that were audited before, all are audited.
 use Rattle.std.proofs.Common.{Bool, drop}
 use Rattle.cc_session.specs.Playing.{AuditsEach, Talk, talk}
 use Rattle.cc_session.proofs.calls.Player.audit_names.Given as goal

@@ -1,4 +1,4 @@
--- The one call, and what its answer says.
+-- One call is made, and the line says what its answer shows.
 use Rattle.std.proofs.Common.{◌≡◌, Bool, true, false, Ok, rules, subst}
 use Rattle.cc_session.specs.Playing.{talk}
 use Rattle.cc_session.specs.internal.Calls.{AuditsName}

@@ -1,4 +1,4 @@
--- Input words that were read; and bytes for which there was no room, or that are followed by another byte.
+-- Three cases: input words were read; there was no room for the bytes; or another byte follows them.
 use Rattle.std.proofs.Common.{List, ℕ, refl, rules}
 use Rattle.cc_session.specs.Playing.{CallsOn, IsSentTo, IsUnended, Talk, talk, words_of}
 use Rattle.cc_session.specs.internal.Steps.{IsNotDone, IsShortOf}

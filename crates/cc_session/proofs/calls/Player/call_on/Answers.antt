@@ -1,4 +1,4 @@
--- The words are those of the bytes, or there are none.
+-- The words are those that the bytes spell, or the bytes are not words.
 use Rattle.std.proofs.Common.{List, ℕ, Option, Some, None, Result, inl, inr, refl, sym, ap, subst, ◌≡◌, ◌∙◌, ◌≤◌, ◌<◌, arith, length}
 use Rattle.std.proofs.lemmas.Bool.Decides.{nat_tests}
 use Rattle.cc_runs.specs.Words.{input_in}
@@ -20,7 +20,7 @@ words_short bytes short = grind (arith, nat_tests)
 words_long : (bytes : List ℕ) → 65536 < length bytes → words_of bytes ≡ None
 words_long bytes long = grind (arith, nat_tests)
 
--- a call on the words
+-- if the bytes are words, the unit is run on these words
 on_words : {T : Type 0} (result : Result T ScriptFault) (name : List ℕ) (steps : ℕ) (words : List ℕ) (given : Option (List ℕ)) (old new : Talk) → given ≡ Some words
     → CallsAndTells (GetAnswers name) (SaysRunOn words steps) old new result → DoesAndTells (DoesOr (CallsOn name steps given)) old new result
 on_words result name steps words given old new is it =
@@ -28,7 +28,7 @@ on_words result name steps words given old new is it =
     (tells_more result (CallsAndWrites (GetAnswers name) (SaysRunOn words steps)) (DoesOr (CallsOn name steps (Some words))) old new (λ n done. inl done)
     (tells_call result (GetAnswers name) (SaysRunOn words steps) old new it))
 
--- the bytes are not words
+-- if the bytes are not words, only 50 is written
 on_none : {T : Type 0} (result : Result T ScriptFault) (name : List ℕ) (steps : ℕ) (given : Option (List ℕ)) (client : MemberView) (old new : Option (List ℕ)) → given ≡ None
     → Tells old new (script_fault_text BadLine) result → DoesAndTells (DoesOr (CallsOn name steps given)) (talk client old) (talk client new) result
 on_none result name steps given client old new is told =
@@ -36,7 +36,7 @@ on_none result name steps given client old new is told =
     (tells_more result (Writes (script_fault_text BadLine)) (DoesOr (CallsOn name steps None)) (talk client old) (talk client new) (λ n done. inl done)
     (tells_only result client old new (script_fault_text BadLine) told))
 
--- there was no memory for the words
+-- if there was no memory for the words, only 40 is written
 on_no_memory : {T : Type 0} (result : Result T ScriptFault) (name : List ℕ) (steps : ℕ) (given : Option (List ℕ)) (client : MemberView) (old new : Option (List ℕ))
     → Tells old new no_memory_text result → DoesAndTells (DoesOr (CallsOn name steps given)) (talk client old) (talk client new) result
 on_no_memory result name steps given client old new told =

@@ -1,4 +1,4 @@
--- What was prepared is of this source and in this mode, and the client made no call meanwhile.
+-- What was prepared has this source and this mode, and the client made no call meanwhile.
 use Rattle.std.proofs.Common.{◌∙◌}
 use Rattle.cc_session.proofs.Putting.{put_as, put_from}
 use Rattle.cc_session.proofs.calls.Player.change.Goals as goal

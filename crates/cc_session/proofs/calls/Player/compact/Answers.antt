@@ -1,4 +1,4 @@
--- No client made a call, whichever client it is.
+-- No client made a call.
 use Rattle.cc_session.proofs.Obeying.{tells_done}
 use Rattle.cc_session.proofs.calls.Player.compact.Goals as goal
 

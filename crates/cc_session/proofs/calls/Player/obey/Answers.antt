@@ -1,4 +1,4 @@
--- For each line what it asks for is done.
+-- For each kind of line, what the line asks for is done.
 use Rattle.std.proofs.Common.{[], None, Some, refl}
 use Rattle.cc_answers.specs.Telling.{script_fault_text}
 use Rattle.cc_script.specs.Line.{Add, Replace, Withdraw, Names, Compact, Audit, Image, Source, AuditOne, Update, Call, Space, asked_of}

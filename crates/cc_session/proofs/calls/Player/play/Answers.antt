@@ -1,4 +1,5 @@
--- Each line is a step; where the script stopped, its client is as they left it, and perhaps the call whose answer could not be written.
+-- Each line is a step. If the script stopped, its client is as these steps left it, or has made one more call, whose answer could
+-- not be written.
 use Rattle.std.proofs.Common.{rules, ◌<◌, refl}
 use Rattle.cc_session.specs.Playing.{talk}
 use Rattle.cc_session.proofs.Growing.{grows_on, grows_same}

@@ -1,4 +1,5 @@
--- The lines so far are done and their answers written, each of a byte at least, and no more than may be. The receipts were counted up to the last line.
+-- The lines so far are done and their answers written; each has at least one byte, and there are no more than
+-- allowed. The receipts were counted up to the last line.
 use Rattle.cc_history.specs.History.{MemberView}
 use Rattle.cc_script.specs.Reading.{Between}
 use Rattle.cc_session.specs.Playing.{Grows, talk}

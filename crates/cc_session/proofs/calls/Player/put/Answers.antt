@@ -1,4 +1,4 @@
--- A source that was handed to the service, one that is followed by another byte, and one for which there was no room.
+-- Three cases: the source was handed to the service; another byte follows it; or there was no room for it.
 use Rattle.std.proofs.Common.{List, ℕ, inl, refl, rules}
 use Rattle.cc_service.specs.Serving.{PutAnswers, Puts}
 use Rattle.cc_session.specs.Playing.{CallsAndWrites, IsSent, IsUnended, Talk, talk}

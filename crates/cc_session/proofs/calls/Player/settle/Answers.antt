@@ -1,4 +1,4 @@
--- It is put once more by the same client, or its answer is written.
+-- The unit is put once more by the same client, or the answer is written.
 use Rattle.std.proofs.Common.{refl}
 use Rattle.cc_session.specs.Telling.{change_text}
 use Rattle.cc_session.proofs.Putting.{put_from, put_not}

@@ -1,4 +1,4 @@
--- The expected source was read, and then what comes after it; or it was not read.
+-- The expected source was read, and then the source after it; or the expected source was not read.
 use Rattle.std.proofs.Common.{List, ℕ, refl, rules}
 use Rattle.cc_session.specs.Playing.{IsSentTwice, IsShortOfTwo, IsUnendedOfTwo, Talk, talk}
 use Rattle.cc_session.specs.internal.Steps.{IsNotDone}

@@ -1,5 +1,5 @@
--- A source that was handed to the service with the expected one, one for which there was no room, and one that is followed by
--- another byte.
+-- Three cases: the source was handed to the service with the expected one; there was no room for it; or another byte follows
+-- it.
 use Rattle.std.proofs.Common.{List, ℕ, Option, Some, None, inl, refl, rules}
 use Rattle.std.specs.Option.{option_map}
 use Rattle.cc_service.specs.Updating.{UpdateAnswers}

@@ -1,4 +1,4 @@
--- The client's calls are as they were.
+-- The client has made no call.
 use Rattle.std.proofs.Common.{◌≡◌}
 use Rattle.cc_session.proofs.hints.Hints.look_ahead.Given as goal
 

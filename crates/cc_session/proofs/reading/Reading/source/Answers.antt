@@ -1,4 +1,4 @@
--- What was read of a source, and what comes after it.
+-- What was sent is the source that was read, given what comes after it.
 use Rattle.std.proofs.Common.{ℕ, Vec, Global, subst}
 use Rattle.std.specs.Option.{option_map}
 use Rattle.cc_script.specs.Reading.{Ahead, Between, IsSource, ahead_of}

@@ -1,4 +1,4 @@
--- One more byte was read.
+-- In each turn one more byte is read.
 use Rattle.std.proofs.Common.{◌≡◌, ◌∙◌, ◌+◌, ◌<◌, ℕ, List, [], ◌∷◌, add-one, ap, get_or, length, sym, take, take_all}
 use Rattle.std.proofs.Math.Seq.{take-suc}
 use Rattle.cc_spool.specs.Answer.{read_byte, read_bytes}

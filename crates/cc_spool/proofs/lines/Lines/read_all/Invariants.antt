@@ -1,4 +1,4 @@
--- The bytes so far were read.
+-- The bytes so far have been read.
 use Rattle.std.proofs.Common.{◌≡◌, take}
 use Rattle.cc_spool.specs.Answer.{read_bytes}
 use Rattle.cc_spool.proofs.lines.Lines.read_all.Given as goal

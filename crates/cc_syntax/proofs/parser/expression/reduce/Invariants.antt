@@ -4,7 +4,7 @@ use Rattle.cc_syntax.specs.internal.Parser.{reduced}
 use Rattle.cc_syntax.specs.internal.ParserView.{waiting_views}
 use Rattle.cc_syntax.proofs.parser.expression.reduce.Given as goal
 
--- reducing the rest gives the same as reducing all
+-- reducing the parts that are left yields what reducing all parts would yield
 abbrev pub invariant-loop-last : goal.invariant-loop-last
 invariant-loop-last l =
     reduced l.level (waiting_views l.initial.waiting.items) (expression_tree l.initial.expression.value)

@@ -1,4 +1,5 @@
--- Without the newest binding the table is as it was before that binding, whether its name hid another or not.
+-- Without the newest binding the table is as it was before that binding, whether that binding hid another or
+-- not.
 use Rattle.std.proofs.Common.{subst, nat_eq}
 use Rattle.indexmap.specs.IndexMap.{get}
 use Rattle.cc_types.proofs.Tables.{IsTable-popped, IsTable-put}

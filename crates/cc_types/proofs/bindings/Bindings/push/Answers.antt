@@ -1,4 +1,4 @@
--- The name has its number, and the new binding hides what the table had there.
+-- The name has its number, and the new binding hides the one that the table had at that number.
 use Rattle.std.proofs.Common.{◌≡◌, ◌∙◌, ◌<◌, ◌++◌, ◌∷◌, [], sym, ap, subst, cond, List, Some, IfSome, length, get_or, nat_eq}
 use Rattle.std.specs.Map.{lookup}
 use Rattle.indexmap.specs.IndexMap.{get}

@@ -1,4 +1,4 @@
--- The name of the definition with this number.
+-- The name with this number is the name of the definition with this number.
 use Rattle.std.proofs.Common.{Some, ap, sym, ◌∙◌}
 use Rattle.cc_ast.specs.Source.{source}
 use Rattle.cc_ast.specs.Erase.{signature_tree, statements_of}

@@ -1,4 +1,4 @@
--- One more error is noted.
+-- One more error is recorded.
 use Rattle.std.proofs.Common.{[], ◌∙◌, Some, ap}
 use Rattle.cc_typing.specs.internal.Findings.{Found, after}
 use Rattle.cc_types.specs.Rules.{broken}

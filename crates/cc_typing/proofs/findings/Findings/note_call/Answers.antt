@@ -1,4 +1,4 @@
--- One more call is noted.
+-- One more call is recorded.
 use Rattle.std.proofs.Common.{◌≡◌, true, false, [], ◌∷◌, ◌∙◌, Some, sym, ap}
 use Rattle.cc_ast.specs.Erase.{name_tree}
 use Rattle.cc_typing.specs.internal.Findings.{Found, after}

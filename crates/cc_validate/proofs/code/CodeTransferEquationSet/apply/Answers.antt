@@ -1,4 +1,5 @@
--- At a position inside, the node and the block agree, and the step is carried out; past the end the answer is the empty set.
+-- At a position within the lists, the node and the block agree, and the step is carried out; past their end, the answer is
+-- the empty set.
 use Rattle.std.proofs.Common.{◌≡◌, get_or, sym, ap, ◌∙◌, subst, arith, IfOk}
 use Rattle.std.proofs.lemmas.Option.{slice_get_within, get_or_from_slice_get}
 use Rattle.cc_flow.specs.Lattice.{Equivalent}

@@ -1,4 +1,4 @@
--- Place by place, from the first in the list to the last.
+-- Nodes are moved place by place, from the first in the list to the last.
 use Rattle.std.proofs.Common.{◌+◌, ◌++◌, ◌∷◌, [], ◌∙◌, Some, None, ap, sym}
 use Rattle.cc_instr_list.specs.List.{entry, listed}
 use Rattle.cc_rtl.proofs.Making.{turns-start, turns-some, turns-none, first_out, no_node}

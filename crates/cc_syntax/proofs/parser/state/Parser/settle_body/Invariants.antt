@@ -4,7 +4,7 @@ use Rattle.cc_syntax.specs.internal.Parser.{settled}
 use Rattle.cc_syntax.specs.internal.ParserView.{open_views, body_view}
 use Rattle.cc_syntax.proofs.parser.state.Parser.settle_body.Given as goal
 
--- settling the rest gives the same as settling all
+-- settling with the open statements that are left yields what settling with all of them would yield
 abbrev pub invariant-loop-last : goal.invariant-loop-last
 invariant-loop-last l =
     settled l.waits (body_view l.initial.self) (open_views l.initial.self.body.open.items) (statement_tree l.initial.statement.value)

@@ -1,5 +1,5 @@
--- A closing token has the same effect if more parts are pending: that depends only on what the expression is a part of and on the
--- count.
+-- A closing token has the same effect whatever other parts are pending: it depends only on what the expression is a part of and
+-- on the count.
 use Rattle.std.proofs.Common.{◌≡◌, ◌∙◌, ◌∷◌, List, ap, sym, subst}
 use Rattle.cc_ast.specs.Tree.{Expr}
 use Rattle.cc_ast.specs.Erase.{expression_tree}

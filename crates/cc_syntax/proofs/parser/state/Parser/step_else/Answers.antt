@@ -1,4 +1,5 @@
--- Without an `else` the statement is complete, and the token comes after the statements that stay open.
+-- If the token is not `else`, the `if` is complete, and the token is read in the state after the complete
+-- `if`.
 use Rattle.std.proofs.Common.{◌≡◌, ◌∙◌, ap, sym, subst, Option, false, rules}
 use Rattle.cc_ast.specs.Erase.{expression_tree, statement_tree}
 use Rattle.cc_syntax.specs.internal.Parser.{Inside, Stage, State, settled, resting_step}

@@ -1,4 +1,4 @@
--- Every token but the parenthesis begins the last part of the header.
+-- Every token except the closing parenthesis begins the last part of the header.
 use Rattle.cc_ast.specs.Erase.{beginning_tree, optional_tree}
 use Rattle.cc_syntax.specs.internal.ParserView.{body_view, name_at}
 use Rattle.cc_syntax.proofs.OtherRoles.{for_stepping-other}

@@ -2,7 +2,7 @@
 use Rattle.std.proofs.Common.{inl, inr, refl, rules}
 use Rattle.cc_answers.specs.Text.{run_text}
 use Rattle.cc_session.specs.Telling.{no_memory_text}
-use Rattle.cc_session.proofs.calls.Player.call_found.Goals as goal
+use Rattle.cc_session.proofs.calls.call_found.Goals as goal
 
 pub returns-in-Ok : goal.returns-in-Ok
 returns-in-Ok g c =
