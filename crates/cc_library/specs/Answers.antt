@@ -66,7 +66,7 @@ module _ {D : Type 0} where
   ChangeAnswers old command before after (Err Damaged) = ⊥
   ChangeAnswers old command before after (Err NotALibrary) = ⊥
 
-  -- what a change leaves besides the disk: after Ok the map after the command; after 35 the old map, closed; after other refusals no change
+  -- what a change leaves: after Ok the map after the command; after 35 the old map, closed; after any other refusal everything as before
   abbrev pub ChangeLeaves : {T : Type 0} → LibraryCommand → (old new : View D) → Result T LibraryFault → Type 0
   ChangeLeaves command old new (Ok done) = new ≡ record { disk = new.disk; area = old.area; bodies = old.bodies ++ body_of command ∷ []; units = after old.units command; closed = false }
   ChangeLeaves command old new (Err DiskFault) = new ≡ record old { disk = new.disk; closed = true }
@@ -98,7 +98,7 @@ module _ {D : Type 0} where
   ChangesDisk seen may_leave command old new (Err Damaged) = Unit {0}
   ChangesDisk seen may_leave command old new (Err NotALibrary) = Unit {0}
 
-  -- `compact`: 36 exactly if the library was closed, then 34 exactly if the records do not fit, then 35 exactly if the device failed
+  -- `compact`: first 36 exactly if it is closed, then 34 exactly if the compacted records do not fit, then 35 exactly if the device failed
   abbrev pub CompactAnswers : {T : Type 0} → View D → (before after : ℕ) → Result T LibraryFault → Type 0
   CompactAnswers old before after (Ok done) = (old.closed ≡ false) × (room_of (compacted old.units) ≤ old.area) × (after ≡ before)
   CompactAnswers old before after (Err Closed) = (old.closed ≡ true) × (after ≡ before)

@@ -80,7 +80,7 @@ pub record HasFound (name : List ℕ) (Holds : (source : List ℕ) → Type 0) (
   pub holds : Holds unit.source
   pub answered : IsAnswered old (Fetch name) (reply.Unit unit) new seen
 
--- The unit had the expected source, and the change is the next entry of the history: no other client's call is between the two.
+-- The look-up found the expected source, and the change is the next entry after it: no other client's call is between these two.
 pub record IsUpdated (Asks : Command → Type 0) (name expected : List ℕ) (old new : MemberView) (receipt : Receipt) : Type 0 where
   pub seen : Receipt
   pub heard : MemberView
