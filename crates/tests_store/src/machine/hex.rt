@@ -6,6 +6,8 @@ use crate::machine::listing::image_of;
 use cc_hex::image::write;
 use cc_rv32::image::{MOST_CODE, MOST_GLOBALS};
 use std::alloc::{AllocError, Global};
+use std::test::Fail;
+use tests_texts::verdict::passes;
 
 static CODE: [u32; 9] = [
     0x00200137, 0xfff00093, 0x0210b133, 0x00010513, 0x00100893, 0x00000073, 0x05d00893, 0x00000073,
@@ -46,49 +48,28 @@ fn expected(alloc: Global) -> Result<String, AllocError> {
 }
 
 /// The text of an image with these words.
-fn text_of(alloc: Global, code: Vec<u32>, globals: Vec<u32>) -> Option<Vec<u8>> {
+fn text_of(alloc: Global, code: Vec<u32>, globals: Vec<u32>) -> Result<Vec<u8>, Fail> {
     let image = image_of(code, globals)?;
     let text = write(alloc, &image);
     drop(image);
-    text.ok()
+    Ok(text?)
 }
 
-fn writes_as_objcopy(alloc: Global) -> bool {
-    let Ok(code) = Vec::from_slice(alloc, CODE.as_slice()) else {
-        return false;
-    };
-    let Ok(globals) = Vec::from_slice(alloc, GLOBALS.as_slice()) else {
-        return false;
-    };
-    let Ok(expected) = expected(alloc) else {
-        return false;
-    };
-    match text_of(alloc, code, globals) {
-        Some(text) => text.as_slice() == expected.as_bytes(),
-        None => false,
-    }
+// Whether the text of an image with these words is this one.
+fn writes(alloc: Global, code: &[u32], globals: &[u32], wanted: &str) -> Result<bool, Fail> {
+    let code = Vec::from_slice(alloc, code)?;
+    let text = text_of(alloc, code, Vec::from_slice(alloc, globals)?)?;
+    Ok(text.as_slice() == wanted.as_bytes())
 }
+
+// The text of an image of one word, with no globals.
+const ONE_WORD: &str = ":020000040001F9\n:040000007300000089\n:00000001FF\n";
 
 #[test]
-fn writes_code_and_globals(rt: HostRuntime) {
-    assert!(rt; writes_as_objcopy(rt.alloc()));
-}
-
-// Whether an image of one word, with no globals, is written correctly.
-fn writes_one_word(alloc: Global) -> bool {
-    let Ok(code) = vec![in alloc; 0x00000073u32] else {
-        return false;
-    };
-    let expected = ":020000040001F9\n:040000007300000089\n:00000001FF\n";
-    match text_of(alloc, code, Vec::new(alloc)) {
-        Some(text) => text.as_slice() == expected.as_bytes(),
-        None => false,
-    }
-}
-
-#[test]
-fn writes_an_image_with_no_globals(rt: HostRuntime) {
-    assert!(rt; writes_one_word(rt.alloc()));
+fn writes_code_and_globals(rt: HostRuntime) -> Result<(), Fail> {
+    let wanted = expected(rt.alloc())?;
+    passes(writes(rt.alloc(), &CODE, &GLOBALS, wanted.as_str()))?;
+    passes(writes(rt.alloc(), &[0x00000073], &[], ONE_WORD))
 }
 
 /// This many words, all different: multiples of `factor`, each plus `more`.
@@ -111,20 +92,15 @@ fn fnv(text: &[u8]) -> u64 {
     hash
 }
 
-/// The length and the checksum of the text of the largest image.
-fn largest(alloc: Global) -> Option<(usize, u64)> {
-    let Ok(code) = words(alloc, MOST_CODE, 2_654_435_761, 0x13) else {
-        return None;
-    };
-    let Ok(globals) = words(alloc, MOST_GLOBALS, 2_246_822_519, 7) else {
-        return None;
-    };
-    let text = text_of(alloc, code, globals)?;
-    Some((text.len(), fnv(text.as_slice())))
+// The length and the checksum of the text of the largest image.
+fn largest(alloc: Global) -> Result<(usize, u64), Fail> {
+    let code = words(alloc, MOST_CODE, 2_654_435_761, 0x13)?;
+    let text = text_of(alloc, code, words(alloc, MOST_GLOBALS, 2_246_822_519, 7)?)?;
+    Ok((text.len(), fnv(text.as_slice())))
 }
 
 // The length and checksum of the text that objcopy wrote for an ELF file with these words, with its lines rewritten as above.
 #[test]
-fn writes_the_largest_image(rt: HostRuntime) {
-    assert!(rt; largest(rt.alloc()) == Some((2_162_892, 0xb1e0_47c4_c09b_c017)));
+fn writes_the_largest_image(rt: HostRuntime) -> Result<(), Fail> {
+    passes(Ok(largest(rt.alloc())? == (2_162_892, 0xb1e0_47c4_c09b_c017)))
 }

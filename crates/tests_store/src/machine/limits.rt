@@ -6,6 +6,8 @@ use cc_rv32::image::{Code, Globals, MOST_CODE, MOST_GLOBALS};
 use cc_rv32::instr::Instr;
 use cc_rv32::operand::{BranchOffset, Immediate, JumpOffset, Register, UpperImmediate};
 use std::alloc::Global;
+use std::test::Fail;
+use tests_texts::verdict::{passes, row_passes};
 
 // Words that are not in the table: fence, ebreak, an access to a control register, a compressed instruction, and gaps in funct3
 // and funct7.
@@ -16,59 +18,75 @@ static NONE: [u32; 17] = [
 ];
 
 #[test]
-fn refuses_words_outside_the_table(rt: HostRuntime) {
-    for word in NONE.iter() {
-        assert!(rt; decode(*word).is_none(), "at {word:08x}");
+fn refuses_words_outside_the_table() -> Result<(), Fail> {
+    for number in 0..NONE.len() {
+        row_passes(number, Ok(decode(NONE[number]).is_none()))?;
     }
+    Ok(())
 }
 
-// The words are those that GNU as gives for these instructions.
-#[test]
-fn encodes_long_operands(rt: HostRuntime) {
+// Whether the words are those that GNU as gives for these instructions.
+fn are_encoded() -> bool {
     let rd = Register::new(1);
     let offset = JumpOffset::new(0xfff00000);
-    assert!(rt; encode(Instr::Jal { rd, offset }) == 0x800000ef);
+    let jumps = encode(Instr::Jal { rd, offset }) == 0x800000ef;
     let rd = Register::new(7);
     let immediate = UpperImmediate::new(0xfffff);
-    assert!(rt; encode(Instr::Lui { rd, immediate }) == 0xfffff3b7);
+    jumps && encode(Instr::Lui { rd, immediate }) == 0xfffff3b7
+}
+
+// Whether the least operands fit, and those past the greatest do not, nor odd offsets.
+fn are_ends() -> bool {
+    Immediate::fits(0xfffff800)
+        && !Immediate::fits(0x800)
+        && BranchOffset::fits(0xfffff000)
+        && !BranchOffset::fits(0x1000)
+        && !BranchOffset::fits(3)
+        && JumpOffset::fits(0xfff00000)
+        && !JumpOffset::fits(0x100000)
+        && !JumpOffset::fits(5)
 }
 
 #[test]
-fn ends_of_operands(rt: HostRuntime) {
-    assert!(rt; Immediate::fits(0xfffff800) && !Immediate::fits(0x800));
-    assert!(rt;
-        BranchOffset::fits(0xfffff000) && !BranchOffset::fits(0x1000) && !BranchOffset::fits(3)
-    );
-    assert!(rt;
-        JumpOffset::fits(0xfff00000) && !JumpOffset::fits(0x100000) && !JumpOffset::fits(5)
-    );
+fn ends_of_operands() -> Result<(), Fail> {
+    passes(Ok(are_encoded()))?;
+    passes(Ok(are_ends()))
 }
 
-/// Whether this many words are accepted as code, and returned.
-fn are_code(alloc: Global, count: usize) -> bool {
-    let Ok(words) = vec![in alloc; 0u32; count] else {
-        return false;
-    };
-    match Code::new(words) {
-        Ok(code) => code.into_words().len() == count,
-        Err(_) => false,
+// Whether this many words are accepted as code, and returned.
+fn are_code(alloc: Global, count: usize) -> Result<bool, Fail> {
+    match Code::new(vec![in alloc; 0u32; count]?) {
+        Ok(code) => Ok(code.into_words().len() == count),
+        Err(_) => Ok(false),
     }
 }
 
-/// Whether this many words are accepted as globals, and returned.
-fn are_globals(alloc: Global, count: usize) -> bool {
-    let Ok(words) = vec![in alloc; 0u32; count] else {
-        return false;
-    };
-    match Globals::new(words) {
-        Ok(globals) => globals.into_words().len() == count,
-        Err(_) => false,
+// Whether this many words are accepted as globals, and returned.
+fn are_globals(alloc: Global, count: usize) -> Result<bool, Fail> {
+    match Globals::new(vec![in alloc; 0u32; count]?) {
+        Ok(globals) => Ok(globals.into_words().len() == count),
+        Err(_) => Ok(false),
     }
+}
+
+// How many words are tried as code and as globals, and whether they are accepted.
+type Lengths = (usize, usize, bool, bool);
+
+static LENGTHS: [Lengths; 3] = [
+    (MOST_CODE, MOST_GLOBALS, true, true),
+    (0, 0, false, true),
+    (MOST_CODE + 1, MOST_GLOBALS + 1, false, false),
+];
+
+fn are_accepted(alloc: Global, row: &Lengths) -> Result<bool, Fail> {
+    let (code, globals, is_code, is_globals) = *row;
+    Ok(are_code(alloc, code)? == is_code && are_globals(alloc, globals)? == is_globals)
 }
 
 #[test]
-fn keeps_within_the_lengths(rt: HostRuntime) {
-    assert!(rt; are_code(rt.alloc(), MOST_CODE) && are_globals(rt.alloc(), MOST_GLOBALS));
-    assert!(rt; !are_code(rt.alloc(), 0) && are_globals(rt.alloc(), 0));
-    assert!(rt; !are_code(rt.alloc(), MOST_CODE + 1) && !are_globals(rt.alloc(), MOST_GLOBALS + 1));
+fn keeps_within_the_lengths(rt: HostRuntime) -> Result<(), Fail> {
+    for number in 0..LENGTHS.len() {
+        row_passes(number, are_accepted(rt.alloc(), &LENGTHS[number]))?;
+    }
+    Ok(())
 }

@@ -5,10 +5,14 @@ use cc_rv32::encode::encode;
 use cc_rv32::image::{Code, Globals, Image, MOST_CODE};
 use cc_rv32::listing::list;
 use std::alloc::Global;
+use std::test::Fail;
+use tests_texts::verdict::{passes, row_passes};
 
 // Words and their text: one word for each kind of operand, one that is not an instruction, and each instruction at least once,
 // with its operands at the ends of their ranges. The words and their text are those of GNU as and LLVM's assembler.
-static LINES: [(u32, &str); 68] = [
+type Line = (u32, &'static str);
+
+static LINES: [Line; 68] = [
     // one of each kind
     (0xfff00093, "addi x1, x0, -1"),
     (0x0000006f, "jal x0, 0"),
@@ -82,80 +86,57 @@ static LINES: [(u32, &str); 68] = [
     (0x7ff201e7, "jalr x3, 2047(x4)"),
 ];
 
-/// The image of these words, if they can be code and globals.
-pub fn image_of(code: Vec<u32>, globals: Vec<u32>) -> Option<Image> {
-    let globals = Globals::new(globals).ok()?;
-    match Code::new(code) {
-        Ok(code) => Some(Image { code, globals }),
-        Err(words) => {
-            drop(globals);
-            drop(words);
-            None
-        }
-    }
+/// The image of these words. Fails if they can't be code and globals.
+pub fn image_of(code: Vec<u32>, globals: Vec<u32>) -> Result<Image, Fail> {
+    let Ok(globals) = Globals::new(globals) else {
+        return Err(Fail::from("the words are no globals"));
+    };
+    let Ok(code) = Code::new(code) else {
+        return Err(Fail::from("the words are no code"));
+    };
+    Ok(Image { code, globals })
 }
 
 /// The listing of these words of code and one word of globals, which it does not show.
-fn listing(alloc: Global, code: Vec<u32>) -> Option<Vec<u8>> {
-    let Ok(globals) = vec![in alloc; 0x00000073u32] else {
-        return None;
-    };
-    let image = image_of(code, globals)?;
+fn listing(alloc: Global, code: Vec<u32>) -> Result<Vec<u8>, Fail> {
+    let image = image_of(code, vec![in alloc; 0x00000073u32]?)?;
     let listed = list(alloc, &image);
     drop(image);
-    listed.ok()
+    Ok(listed?)
 }
 
 /// Whether the listing of these words of code is this text.
-fn lists(alloc: Global, code: &[u32], text: &[u8]) -> bool {
-    let Ok(code) = Vec::from_slice(alloc, code) else {
-        return false;
-    };
-    match listing(alloc, code) {
-        Some(lines) => lines.as_slice() == text,
-        None => false,
-    }
+fn lists(alloc: Global, code: &[u32], text: &[u8]) -> Result<bool, Fail> {
+    Ok(listing(alloc, Vec::from_slice(alloc, code)?)?.as_slice() == text)
 }
 
 /// Whether the word's line has this text, and whether an instruction is encoded as the same word again.
-fn is_line(alloc: Global, word: u32, text: &str) -> bool {
+fn is_line(alloc: Global, line: &Line) -> Result<bool, Fail> {
+    let (word, text) = *line;
     let again = decode(word).map(encode);
     let known = if text == ".word" { None } else { Some(word) };
-    let Ok(line) = format!(in alloc; "00010000 {word:08x} {text}\n") else {
-        return false;
-    };
-    again == known && lists(alloc, [word].as_slice(), line.as_bytes())
+    let line = format!(in alloc; "00010000 {word:08x} {text}\n")?;
+    Ok(again == known && lists(alloc, &[word], line.as_bytes())?)
 }
 
 #[test]
-fn lists_each_word(rt: HostRuntime) {
-    for (word, text) in LINES.iter() {
-        assert!(rt; is_line(rt.alloc(), *word, text), "at {word:08x}");
+fn lists_each_word(rt: HostRuntime) -> Result<(), Fail> {
+    for number in 0..LINES.len() {
+        row_passes(number, is_line(rt.alloc(), &LINES[number]))?;
     }
-}
-
-#[test]
-fn lists_words_in_order_of_address(rt: HostRuntime) {
-    let code = [0xfff00093u32, 0];
-    let lines = "00010000 fff00093 addi x1, x0, -1\n00010004 00000000 .word\n";
-    assert!(rt; lists(rt.alloc(), code.as_slice(), lines.as_bytes()));
+    Ok(())
 }
 
 // The last word of the longest code is at 0x0008fffc.
-fn lists_the_last(alloc: Global) -> bool {
-    let Ok(code) = vec![in alloc; 0x00000073u32; MOST_CODE] else {
-        return false;
-    };
+fn lists_the_last(alloc: Global) -> Result<bool, Fail> {
+    let text = listing(alloc, vec![in alloc; 0x00000073u32; MOST_CODE]?)?;
     let last = "0008fffc 00000073 ecall\n";
-    match listing(alloc, code) {
-        Some(text) => {
-            text.len() == MOST_CODE * last.len() && text.as_slice().ends_with(last.as_bytes())
-        }
-        None => false,
-    }
+    Ok(text.len() == MOST_CODE * last.len() && text.as_slice().ends_with(last.as_bytes()))
 }
 
 #[test]
-fn lists_the_longest_code(rt: HostRuntime) {
-    assert!(rt; lists_the_last(rt.alloc()));
+fn lists_words_in_order_and_the_longest_code(rt: HostRuntime) -> Result<(), Fail> {
+    let lines = "00010000 fff00093 addi x1, x0, -1\n00010004 00000000 .word\n";
+    passes(lists(rt.alloc(), &[0xfff00093, 0], lines.as_bytes()))?;
+    passes(lists_the_last(rt.alloc()))
 }

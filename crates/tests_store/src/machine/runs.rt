@@ -3,7 +3,6 @@
 use crate::machine::listing::image_of;
 use cc_rv32::encode::encode;
 use cc_rv32::fault::MachineFault;
-use cc_rv32::image::Image;
 use cc_rv32::instr::{
     BranchOperation, ImmediateOperation, Instr, LoadOperation, RegisterOperation, ShiftOperation,
     StoreOperation,
@@ -12,6 +11,8 @@ use cc_rv32::machine::Machine;
 use cc_rv32::operand::{BranchOffset, Immediate, Register, ShiftCount};
 use cc_rv32::outcome::MachineOutcome;
 use std::alloc::Global;
+use std::test::Fail;
+use tests_texts::verdict::{passes_for, row_passes};
 
 const ECALL: u32 = 0x0000_0073;
 
@@ -30,7 +31,9 @@ const TO_X5: u32 = 0x0005_0293;
 const TO_X6: u32 = 0x0005_0313;
 
 // What each operation gives on two words (rv32ui and rv32um).
-static OPERATIONS: [(RegisterOperation, u32, u32, u32); 92] = [
+type Operation = (RegisterOperation, u32, u32, u32);
+
+static OPERATIONS: [Operation; 92] = [
     (RegisterOperation::Add, 0x0, 0x0, 0x0),
     (RegisterOperation::Add, 0x1, 0x1, 0x2),
     (RegisterOperation::Add, 0x7fffffff, 0x1, 0x80000000),
@@ -141,7 +144,9 @@ static OPERATIONS: [(RegisterOperation, u32, u32, u32); 92] = [
 ];
 
 // What each operation gives on a word and an immediate, which is given as the word that it denotes.
-static IMMEDIATES: [(ImmediateOperation, u32, u32, u32); 9] = [
+type OnImmediate = (ImmediateOperation, u32, u32, u32);
+
+static IMMEDIATES: [OnImmediate; 9] = [
     (ImmediateOperation::Addi, 0x7fffffff, 0x7ff, 0x800007fe),
     (ImmediateOperation::Addi, 0x80000000, 0xfffff800, 0x7ffff800),
     (ImmediateOperation::Slti, 0xffffffff, 1, 1),
@@ -154,7 +159,9 @@ static IMMEDIATES: [(ImmediateOperation, u32, u32, u32); 9] = [
 ];
 
 // What each shift gives on a word and a count.
-static SHIFTS: [(ShiftOperation, u32, u8, u32); 7] = [
+type Shift = (ShiftOperation, u32, u8, u32);
+
+static SHIFTS: [Shift; 7] = [
     (ShiftOperation::Slli, 0x21212121, 0, 0x21212121),
     (ShiftOperation::Slli, 1, 31, 0x80000000),
     (ShiftOperation::Srli, 0x80000000, 31, 1),
@@ -165,7 +172,9 @@ static SHIFTS: [(ShiftOperation, u32, u8, u32); 7] = [
 ];
 
 // What each load gives at an offset into the globals, which hold the words 0ff000ff and f00f0ff0; `None` is a trap.
-static LOADS: [(LoadOperation, u32, Option<u32>); 16] = [
+type Load = (LoadOperation, u32, Option<u32>);
+
+static LOADS: [Load; 16] = [
     (LoadOperation::Lb, 0, Some(0xffffffff)),
     (LoadOperation::Lb, 1, Some(0)),
     (LoadOperation::Lb, 2, Some(0xfffffff0)),
@@ -185,7 +194,9 @@ static LOADS: [(LoadOperation, u32, Option<u32>); 16] = [
 ];
 
 // What the first global, 0ff000ff at first, holds once 12345678 has been stored at an offset; `None` is a trap.
-static STORES: [(StoreOperation, u32, Option<u32>); 8] = [
+type Store = (StoreOperation, u32, Option<u32>);
+
+static STORES: [Store; 8] = [
     (StoreOperation::Sb, 0, Some(0x0ff00078)),
     (StoreOperation::Sb, 3, Some(0x78f000ff)),
     (StoreOperation::Sh, 0, Some(0x0ff05678)),
@@ -197,7 +208,9 @@ static STORES: [(StoreOperation, u32, Option<u32>); 8] = [
 ];
 
 // Whether each branch is taken.
-static BRANCHES: [(BranchOperation, u32, u32, bool); 15] = [
+type Branch = (BranchOperation, u32, u32, bool);
+
+static BRANCHES: [Branch; 15] = [
     (BranchOperation::Beq, 0xffffffff, 0xffffffff, true),
     (BranchOperation::Beq, 0, 1, false),
     (BranchOperation::Bne, 0, 0xffffffff, true),
@@ -216,7 +229,15 @@ static BRANCHES: [(BranchOperation, u32, u32, bool); 15] = [
 ];
 
 // What a program shows; its words and its input; the first word that it writes, and its outcome.
-static PROGRAMS: [(&str, &[u32], &[u32], Option<u32>, MachineOutcome); 18] = [
+type Program = (
+    &'static str,
+    &'static [u32],
+    &'static [u32],
+    Option<u32>,
+    MachineOutcome,
+);
+
+static PROGRAMS: [Program; 18] = [
     (
         "the stack's last word: sw x2, -4(x2); lw x10, -4(x2)",
         &[0xfe212e23, 0xffc12503, WRITE, ECALL, EXIT, ECALL],
@@ -225,7 +246,7 @@ static PROGRAMS: [(&str, &[u32], &[u32], Option<u32>, MachineOutcome); 18] = [
         MachineOutcome::Exited(0x0080_0000),
     ),
     (
-        "behind the stack: sw x2, 0(x2)",
+        "past the stack: sw x2, 0(x2)",
         &[0x00212023, WRITE, ECALL],
         &[],
         None,
@@ -257,14 +278,14 @@ static PROGRAMS: [(&str, &[u32], &[u32], Option<u32>, MachineOutcome); 18] = [
         MachineOutcome::Exited(0x0024_0000),
     ),
     (
-        "behind the globals: sw x8, 0(x8)",
+        "past the globals: sw x8, 0(x8)",
         &[0x00240437, 0x00842023, WRITE, ECALL],
         &[],
         None,
         MachineOutcome::Trapped,
     ),
     (
-        "jal x10, 8 skips a word that is none, and x10 is the address behind it",
+        "jal x10, 8 skips a word that is no instruction, and x10 is the address after the jump",
         &[0x0080056f, 0, WRITE, ECALL, EXIT, ECALL],
         &[],
         Some(0x0001_0004),
@@ -361,7 +382,9 @@ const PRODUCT: &[u32] = &[
 
 // A program, a first and a second number of instructions, the machine's outcome after both, and the first word that it has
 // written by then. The last two programs are a word that is not an instruction, and lw x1, 0(x0).
-static PARTS: [(&[u32], u64, u64, MachineOutcome, Option<u32>); 11] = [
+type Part = (&'static [u32], u64, u64, MachineOutcome, Option<u32>);
+
+static PARTS: [Part; 11] = [
     (EXITS, 0, 2, MachineOutcome::Going, None),
     (EXITS, 2, 1, MachineOutcome::Exited(5), None),
     (EXITS, 3, 1, MachineOutcome::Exited(5), None),
@@ -389,98 +412,75 @@ static PARTS: [(&[u32], u64, u64, MachineOutcome, Option<u32>); 11] = [
 
 static GLOBALS: [u32; 2] = [0x0ff000ff, 0xf00f0ff0];
 
-fn image(alloc: Global, code: &[u32], globals: &[u32]) -> Option<Image> {
-    let (Ok(code), Ok(globals)) = (
-        Vec::from_slice(alloc, code),
-        Vec::from_slice(alloc, globals),
-    ) else {
-        return None;
-    };
-    image_of(code, globals)
-}
-
 // A machine with a program loaded.
-fn machine(alloc: Global, code: &[u32], globals: &[u32], input: &[u32]) -> Option<Machine> {
-    let image = image(alloc, code, globals)?;
+fn machine(alloc: Global, code: &[u32], globals: &[u32], input: &[u32]) -> Result<Machine, Fail> {
+    let code = Vec::from_slice(alloc, code)?;
+    let image = image_of(code, Vec::from_slice(alloc, globals)?)?;
     let made = Machine::new(alloc, &image, input);
     drop(image);
-    made.ok()
+    Ok(made?)
 }
 
-// The machine's outcome after this many more instructions, and the first word that it has written.
-fn shown(machine: &mut Machine, steps: u64) -> Result<(MachineOutcome, Option<u32>), MachineFault> {
+// The machine's outcome, and the first word that it has written.
+type Shown = (MachineOutcome, Option<u32>);
+
+// What the machine shows after two runs, of `before` and of `steps` instructions.
+fn shown(machine: &mut Machine, before: u64, steps: u64) -> Result<Shown, MachineFault> {
+    machine.run(before)?;
     let outcome = machine.run(steps)?;
     Ok((outcome, machine.output().first().copied()))
 }
 
-// As `shown`, after two runs, of `before` and of `steps` instructions.
-fn shown_twice(
-    machine: &mut Machine,
-    before: u64,
-    steps: u64,
-) -> Result<(MachineOutcome, Option<u32>), MachineFault> {
-    machine.run(before)?;
-    shown(machine, steps)
-}
-
-// Whether a program has this outcome and has written this word first, after two runs of as many instructions as `parts` says.
-fn comes_to(
+// What a machine with this program shows after two runs of as many instructions as `parts` says.
+fn shown_after(
     alloc: Global,
     code: &[u32],
     globals: &[u32],
     input: &[u32],
     parts: (u64, u64),
-    wanted: (MachineOutcome, Option<u32>),
-) -> bool {
-    let Some(mut machine) = machine(alloc, code, globals, input) else {
-        return false;
-    };
-    let found = shown_twice(&mut machine, parts.0, parts.1);
+) -> Result<Shown, Fail> {
+    let mut machine = machine(alloc, code, globals, input)?;
+    let found = shown(&mut machine, parts.0, parts.1);
     drop(machine);
-    matches!(found, Ok((outcome, word)) if outcome == wanted.0 && word == wanted.1)
+    Ok(found?)
+}
+
+fn is_run_in_parts(alloc: Global, row: &Part) -> Result<bool, Fail> {
+    let (code, before, steps, outcome, word) = *row;
+    Ok(shown_after(alloc, code, &[], &[], (before, steps))? == (outcome, word))
 }
 
 #[test]
-fn runs_a_part_at_a_time(rt: HostRuntime) {
-    for (code, before, steps, outcome, word) in PARTS.iter() {
-        let is_right = comes_to(
-            rt.alloc(),
-            code,
-            &[],
-            &[],
-            (*before, *steps),
-            (*outcome, *word),
-        );
-        assert!(rt; is_right, "{before} and {steps}");
+fn runs_a_part_at_a_time(rt: HostRuntime) -> Result<(), Fail> {
+    for number in 0..PARTS.len() {
+        row_passes(number, is_run_in_parts(rt.alloc(), &PARTS[number]))?;
     }
+    Ok(())
+}
+
+fn is_run(alloc: Global, row: &Program) -> Result<bool, Fail> {
+    let (_, code, input, word, outcome) = *row;
+    Ok(shown_after(alloc, code, &[], input, (0, 1000))? == (outcome, word))
 }
 
 #[test]
-fn runs_programs(rt: HostRuntime) {
-    for (shows, code, input, word, outcome) in PROGRAMS.iter() {
-        let is_right = comes_to(rt.alloc(), code, &[], input, (0, 1000), (*outcome, *word));
-        assert!(rt; is_right, "{shows}");
+fn runs_programs(rt: HostRuntime) -> Result<(), Fail> {
+    for number in 0..PROGRAMS.len() {
+        passes_for(is_run(rt.alloc(), &PROGRAMS[number]), PROGRAMS[number].0)?;
     }
+    Ok(())
 }
 
 // Whether this is the first word that a program writes within a thousand instructions. The program must trap if the word is
 // `None`, and only then.
-fn writes(alloc: Global, code: &[u32], input: &[u32], word: Option<u32>) -> bool {
-    let Some(mut machine) = machine(alloc, code, &GLOBALS, input) else {
-        return false;
-    };
-    let found = shown(&mut machine, 1000);
-    drop(machine);
-    match found {
-        Ok((outcome, written)) => {
-            written == word && (outcome == MachineOutcome::Trapped) == word.is_none()
-        }
-        Err(_) => false,
-    }
+fn writes(alloc: Global, code: &[u32], input: &[u32], word: Option<u32>) -> Result<bool, Fail> {
+    let (outcome, written) = shown_after(alloc, code, &GLOBALS, input, (0, 1000))?;
+    Ok(written == word && (outcome == MachineOutcome::Trapped) == word.is_none())
 }
 
 // Whether the operation on two input words writes this word.
-fn computes(alloc: Global, operation: RegisterOperation, left: u32, right: u32, word: u32) -> bool {
+fn computes(alloc: Global, row: &Operation) -> Result<bool, Fail> {
+    let (operation, left, right, word) = *row;
     let tried = encode(Instr::Op {
         operation,
         rd: Register::new(10),
@@ -494,98 +494,116 @@ fn computes(alloc: Global, operation: RegisterOperation, left: u32, right: u32, 
 }
 
 #[test]
-fn computes_on_two_registers(rt: HostRuntime) {
-    for (operation, left, right, word) in OPERATIONS.iter() {
-        let is_right = computes(rt.alloc(), *operation, *left, *right, *word);
-        assert!(rt; is_right, "on {left:08x} and {right:08x}");
+fn computes_on_two_registers(rt: HostRuntime) -> Result<(), Fail> {
+    for number in 0..OPERATIONS.len() {
+        row_passes(number, computes(rt.alloc(), &OPERATIONS[number]))?;
     }
+    Ok(())
 }
 
 // Whether this word is written after the instruction changes x10, which holds the input word.
-fn changes(alloc: Global, instr: Instr, left: u32, word: u32) -> bool {
+fn changes(alloc: Global, instr: Instr, left: u32, word: u32) -> Result<bool, Fail> {
     let code = [READ, ECALL, encode(instr), WRITE, ECALL, EXIT, ECALL];
     writes(alloc, &code, &[left], Some(word))
 }
 
-#[test]
-fn computes_on_immediates(rt: HostRuntime) {
-    for (operation, left, immediate, word) in IMMEDIATES.iter() {
-        assert!(rt; Immediate::fits(*immediate));
-        let instr = Instr::OpImm {
-            operation: *operation,
-            rd: Register::new(10),
-            rs1: Register::new(10),
-            immediate: Immediate::new(*immediate),
-        };
-        assert!(rt;
-            changes(rt.alloc(), instr, *left, *word),
-            "on {left:08x} and {immediate:08x}"
-        );
+fn computes_on(alloc: Global, row: &OnImmediate) -> Result<bool, Fail> {
+    let (operation, left, immediate, word) = *row;
+    if !Immediate::fits(immediate) {
+        return Ok(false);
     }
+    let instr = Instr::OpImm {
+        operation,
+        rd: Register::new(10),
+        rs1: Register::new(10),
+        immediate: Immediate::new(immediate),
+    };
+    changes(alloc, instr, left, word)
 }
 
 #[test]
-fn shifts_by_a_count(rt: HostRuntime) {
-    for (operation, left, count, word) in SHIFTS.iter() {
-        assert!(rt; *count < 32);
-        let instr = Instr::Shift {
-            operation: *operation,
-            rd: Register::new(10),
-            rs1: Register::new(10),
-            count: ShiftCount::new(*count),
-        };
-        assert!(rt;
-            changes(rt.alloc(), instr, *left, *word),
-            "{left:08x} by {count}"
-        );
+fn computes_on_immediates(rt: HostRuntime) -> Result<(), Fail> {
+    for number in 0..IMMEDIATES.len() {
+        row_passes(number, computes_on(rt.alloc(), &IMMEDIATES[number]))?;
     }
+    Ok(())
+}
+
+fn shifts(alloc: Global, row: &Shift) -> Result<bool, Fail> {
+    let (operation, left, count, word) = *row;
+    if count >= 32 {
+        return Ok(false);
+    }
+    let instr = Instr::Shift {
+        operation,
+        rd: Register::new(10),
+        rs1: Register::new(10),
+        count: ShiftCount::new(count),
+    };
+    changes(alloc, instr, left, word)
+}
+
+#[test]
+fn shifts_by_a_count(rt: HostRuntime) -> Result<(), Fail> {
+    for number in 0..SHIFTS.len() {
+        row_passes(number, shifts(rt.alloc(), &SHIFTS[number]))?;
+    }
+    Ok(())
 }
 
 // lui x8, 0x200 comes first: it loads the address of the globals.
-#[test]
-fn loads(rt: HostRuntime) {
-    for (operation, offset, word) in LOADS.iter() {
-        assert!(rt; Immediate::fits(*offset));
-        let tried = encode(Instr::Load {
-            operation: *operation,
-            rd: Register::new(10),
-            rs1: Register::new(8),
-            offset: Immediate::new(*offset),
-        });
-        let code = [0x00200437, tried, WRITE, ECALL, EXIT, ECALL];
-        assert!(rt; writes(rt.alloc(), &code, &[], *word), "at {offset}");
+fn loads_at(alloc: Global, row: &Load) -> Result<bool, Fail> {
+    let (operation, offset, word) = *row;
+    if !Immediate::fits(offset) {
+        return Ok(false);
     }
+    let tried = encode(Instr::Load {
+        operation,
+        rd: Register::new(10),
+        rs1: Register::new(8),
+        offset: Immediate::new(offset),
+    });
+    let code = [0x00200437, tried, WRITE, ECALL, EXIT, ECALL];
+    writes(alloc, &code, &[], word)
+}
+
+#[test]
+fn loads(rt: HostRuntime) -> Result<(), Fail> {
+    for number in 0..LOADS.len() {
+        row_passes(number, loads_at(rt.alloc(), &LOADS[number]))?;
+    }
+    Ok(())
 }
 
 // lw x10, 0(x8) comes after the store.
-#[test]
-fn stores(rt: HostRuntime) {
-    for (operation, offset, word) in STORES.iter() {
-        assert!(rt; Immediate::fits(*offset));
-        let tried = encode(Instr::Store {
-            operation: *operation,
-            rs1: Register::new(8),
-            rs2: Register::new(10),
-            offset: Immediate::new(*offset),
-        });
-        let code = [
-            0x00200437, READ, ECALL, tried, 0x00042503, WRITE, ECALL, EXIT, ECALL,
-        ];
-        assert!(rt;
-            writes(rt.alloc(), &code, &[0x12345678], *word),
-            "at {offset}"
-        );
+fn stores_at(alloc: Global, row: &Store) -> Result<bool, Fail> {
+    let (operation, offset, word) = *row;
+    if !Immediate::fits(offset) {
+        return Ok(false);
     }
+    let tried = encode(Instr::Store {
+        operation,
+        rs1: Register::new(8),
+        rs2: Register::new(10),
+        offset: Immediate::new(offset),
+    });
+    let code = [
+        0x00200437, READ, ECALL, tried, 0x00042503, WRITE, ECALL, EXIT, ECALL,
+    ];
+    writes(alloc, &code, &[0x12345678], word)
+}
+
+#[test]
+fn stores(rt: HostRuntime) -> Result<(), Fail> {
+    for number in 0..STORES.len() {
+        row_passes(number, stores_at(rt.alloc(), &STORES[number]))?;
+    }
+    Ok(())
 }
 
 // A taken branch skips a write of 0: addi x17, x0, 1; ecall; then addi x10, x0, 1.
-fn branches_on(
-    alloc: Global,
-    operation: BranchOperation,
-    left: u32,
-    right: u32,
-    taken: bool,
-) -> bool {
+fn branches_on(alloc: Global, row: &Branch) -> Result<bool, Fail> {
+    let (operation, left, right, taken) = *row;
     let tried = encode(Instr::Branch {
         operation,
         rs1: Register::new(5),
@@ -600,56 +618,51 @@ fn branches_on(
 }
 
 #[test]
-fn branches(rt: HostRuntime) {
-    for (operation, left, right, taken) in BRANCHES.iter() {
-        let is_right = branches_on(rt.alloc(), *operation, *left, *right, *taken);
-        assert!(rt; is_right, "on {left:08x} and {right:08x}");
+fn branches(rt: HostRuntime) -> Result<(), Fail> {
+    for number in 0..BRANCHES.len() {
+        row_passes(number, branches_on(rt.alloc(), &BRANCHES[number]))?;
     }
+    Ok(())
 }
 
-// The outcomes of two steps of a program of one word.
-fn two_steps(machine: &mut Machine) -> Result<(MachineOutcome, MachineOutcome), MachineFault> {
-    let first = machine.step()?;
+// The outcomes of a machine after this many more instructions, a single one by a step, and after one more step.
+fn outcomes(
+    machine: &mut Machine,
+    steps: u64,
+) -> Result<(MachineOutcome, MachineOutcome), MachineFault> {
+    let first = if steps == 1 {
+        machine.step()?
+    } else {
+        machine.run(steps)?
+    };
     Ok((first, machine.step()?))
 }
 
-// Whether a step that leaves the code, by a jump or past the last word, succeeds and the fetch after it traps.
-fn leaves_the_code(alloc: Global, word: u32) -> bool {
-    let Some(mut machine) = machine(alloc, &[word], &[], &[]) else {
-        return false;
-    };
-    let found = two_steps(&mut machine);
+// The words of a program, how many instructions come first, and the outcome one step later.
+type Last = (&'static [u32], u64, MachineOutcome);
+
+static LASTS: [Last; 5] = [
+    // A step that leaves the code, past the last word or by jal x0, 8 or jalr x0, 0(x0), succeeds, and the fetch after it traps.
+    (&[0x0000_0013], 1, MachineOutcome::Trapped),
+    (&[0x0080_006f], 1, MachineOutcome::Trapped),
+    (&[0x0000_0067], 1, MachineOutcome::Trapped),
+    // A jump to itself, jal x0, 0 or jal x1, 0, runs for ever; running it takes no time.
+    (&[0x0000_0013, 0x0000_006f], u64::MAX, MachineOutcome::Going),
+    (&[0x0000_0013, 0x0000_00ef], u64::MAX, MachineOutcome::Going),
+];
+
+fn ends_as(alloc: Global, row: &Last) -> Result<bool, Fail> {
+    let (code, steps, last) = *row;
+    let mut machine = machine(alloc, code, &[], &[])?;
+    let found = outcomes(&mut machine, steps);
     drop(machine);
-    matches!(found, Ok((MachineOutcome::Going, MachineOutcome::Trapped)))
+    Ok(found? == (MachineOutcome::Going, last))
 }
 
 #[test]
-fn traps_outside_the_code(rt: HostRuntime) {
-    for word in [0x0000_0013, 0x0080_006f, 0x0000_0067] {
-        assert!(rt; leaves_the_code(rt.alloc(), word), "at {word:08x}");
+fn traps_outside_the_code_and_jumps_to_themselves(rt: HostRuntime) -> Result<(), Fail> {
+    for number in 0..LASTS.len() {
+        row_passes(number, ends_as(rt.alloc(), &LASTS[number]))?;
     }
-}
-
-// The outcomes of as many steps as one call can take, and of one more.
-fn all_steps(machine: &mut Machine) -> Result<(MachineOutcome, MachineOutcome), MachineFault> {
-    let whole = machine.run(u64::MAX)?;
-    Ok((whole, machine.step()?))
-}
-
-// Whether a jump to itself runs for ever; running it takes no time.
-fn stays_in_place(alloc: Global, jump: u32) -> bool {
-    let Some(mut machine) = machine(alloc, &[0x0000_0013, jump], &[], &[]) else {
-        return false;
-    };
-    let found = all_steps(&mut machine);
-    drop(machine);
-    matches!(found, Ok((MachineOutcome::Going, MachineOutcome::Going)))
-}
-
-// jal x0, 0 and jal x1, 0
-#[test]
-fn jumps_to_themselves(rt: HostRuntime) {
-    for jump in [0x0000_006f, 0x0000_00ef] {
-        assert!(rt; stays_in_place(rt.alloc(), jump), "at {jump:08x}");
-    }
+    Ok(())
 }
