@@ -20,11 +20,12 @@ import tempfile
 
 TOP = os.path.dirname(os.path.dirname(os.path.dirname(os.path.abspath(__file__))))
 PARTS = ("src", "specs", "proofs")
-ERROR = re.compile(r"(?:note: )?(?:\./)?(\S+?):\d+:\d+: (.*)")
-# The prover could not read the new text, so it tried no contract.
-UNREAD = re.compile(r"is not in scope|has no field|is no name|operand is missing|expected the end|cannot continue")
+# What the prover says of a place: an error, or a note about a goal that is open.
+SAID = re.compile(r"(note: |)(?:\./)?(\S+?):\d+:\d+: (error: |)(.*)")
+# An error of the code for which no contract was tried: it names no goal, or something is not in scope.
+UNREAD = re.compile(r"(?!`[^`]*`: )|.*(is not in scope|has no field|is no name|operand is missing|expected the end|cannot continue)")
 # A proof names what the edit took away, or cites a proof that does: this says little about the contract.
-GONE = re.compile(r"has no field|is not in scope|has no `|was not admitted")
+GONE = re.compile(r".*(has no field|is not in scope|has no `|was not admitted)")
 
 
 def edits_of(top, crates=()):
@@ -83,6 +84,22 @@ def link_or_copy(one, other):
     return os.link(one, other) if one.endswith(".oantt") else shutil.copy2(one, other)
 
 
+def judged(status, lines):
+    """Returns whether a check with an edit refuses it, and what to print about it."""
+    if status == 0:
+        return False, "NOT REFUSED: the crate is still proved"
+    if status != 1 or not lines[-1].startswith("logic=not-proved"):
+        return False, f"NOT TRIED: the check ends with {status}: {lines[0]}"
+    said = [it for it in map(SAID.match, lines) if it and (it[1] or it[3])]
+    for it in said:
+        if it[3] and not it[2].startswith("proofs/") and UNREAD.match(it[4]):
+            return False, f"NOT TRIED: the prover cannot read it: {it[0]}"
+    why = [it for it in said if not (it[2].startswith("proofs/") and GONE.match(it[4]))]
+    if said and not why:
+        return False, f"NOT REFUSED: only a proof names what the edit took away: {said[0][0]}"
+    return True, f"refused: {why[0][0][:160]}" if why else "refused"
+
+
 class Trial:
     """A crate whose edits are tried."""
 
@@ -97,7 +114,8 @@ class Trial:
         for it in [*needs[crate], "std"]:
             words += ["--extern", f"{it}={below.KEPT if it in needs else f'{below.KIT}/rlibs'}/{it}.rlib"]
         words += ["-L", f"dependency={below.KEPT}", "-L", f"dependency={below.KIT}/rlibs", "--links", f"{crate}=", "--jobs", "1"]
-        self.words = [*words, "--antt-project", f"{below.KIT}/rattle/logic/antt-project.json", "--logic-built", f"{below.KIT}/logic_built", "--incremental"]
+        words += ["--antt-project", f"{below.KIT}/rattle/logic/antt-project.json", "--logic-built", f"{below.KIT}/logic_built"]
+        self.words = [*words, "--incremental"]
 
     def check(self, texts, over):
         """Checks a copy of the crate with these texts over what the folder `over` has. Returns the status and the lines."""
@@ -129,16 +147,7 @@ class Trial:
         shutil.copytree(self.seed, over, copy_function=link_or_copy)
         status, lines = self.check(texts, over)
         shutil.rmtree(over)
-        if status == 0:
-            return False, "NOT REFUSED: the crate is still proved"
-        if status != 1 or not lines[-1].startswith("logic=not-proved"):
-            return False, f"NOT TRIED: the check ends with {status}: {lines[0]}"
-        errors = [found for found in map(ERROR.match, lines) if found]
-        unread = [it[0] for it in errors if not it[1].startswith("proofs/") and UNREAD.search(re.sub("`[^`]*`", "", it[2]))]
-        if unread:
-            return False, f"NOT TRIED: the prover cannot read it: {unread[0]}"
-        why = [it[0] for it in errors if not (it[1].startswith("proofs/") and GONE.search(it[2]))]
-        return bool(why), f"refused: {why[0]}" if why else "NOT REFUSED: only a proof names what the edit took away"
+        return judged(status, lines)
 
 
 def tried(crate, edits, below):

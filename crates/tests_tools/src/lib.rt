@@ -1,9 +1,21 @@
-//! Tests of what the program shows to tools and people about a run or an answer: objects of JSON, the newest things of a run, how often each
-//! line is reached, which calls are open. Expected texts were written by hand from `docs/JSON.md`, `docs/LANGUAGE.md` and the programs.
+//! Tests of the commands that look into runs and libraries, over disks in memory. Of a run: the newest things it does (`traced`), how often each
+//! line is reached (`covered`), which calls are open as it goes wrong (`open`), and programs in files (`in_files`). Of a library: units that
+//! are run (`calls`) and measured (`measures`), where two libraries differ (`differences`), what their commands were and how an earlier unit
+//! is put back (`logs`), and what a copy contains (`copies`). Of what is shown to a program or a script: objects of JSON (`json`, `lines`),
+//! faults in answers (`watches`), and command lines (`words`).
+//!
+//! Most tests are tables: one helper answers a row, and one comparison judges it. Units are made by hand (`helpers`). Expected texts were
+//! written by hand from the machine's rules, `docs/JSON.md`, `docs/LANGUAGE.md` and the programs.
 #![tactic(auto)]
 
 #[cfg(test)]
+mod calls;
+#[cfg(test)]
+mod copies;
+#[cfg(test)]
 mod covered;
+#[cfg(test)]
+mod differences;
 #[cfg(test)]
 mod helpers;
 #[cfg(test)]
@@ -13,6 +25,14 @@ mod json;
 #[cfg(test)]
 mod lines;
 #[cfg(test)]
+mod logs;
+#[cfg(test)]
+mod measures;
+#[cfg(test)]
 mod open;
 #[cfg(test)]
 mod traced;
+#[cfg(test)]
+mod watches;
+#[cfg(test)]
+mod words;
