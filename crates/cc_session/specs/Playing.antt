@@ -175,7 +175,8 @@ Plays mode dialect MayBegin before old (turn ∷ turns) after new =
 
 -- there are at most as many lines as the bound allows, if there is one
 abbrev pub IsWithin : (most : Option ℕ) (lines : ℕ) → Type 0
-IsWithin most lines = IfSome most (λ bound. lines ≤ bound)
+IsWithin None lines = Unit {0}
+IsWithin (Some most) lines = lines ≤ most
 
 -- the number of bytes that the receipts of a client since `first` are counted to hold
 abbrev pub held_since : (first now : MemberView) → ℕ
@@ -280,7 +281,7 @@ IsEnding most fault = Unit {0}
 abbrev pub StopsBy : Mode → Dialect → (most : Option ℕ) → ScriptFault → (script : List ℕ) (first : MemberView) (last : Talk) (lines : ℕ) (rest : List ℕ) (now : Talk) → Type 0
 StopsBy mode dialect most BadLine script first last lines rest now = ⊥
 StopsBy mode dialect most EndOfScript script first last lines rest now =
-    IsBegun (BeginsBad dialect rest) now last × NextMayBegin most first lines now.client × NextLineAsks dialect IsCutShort rest
+    IsBegun (BeginsBad dialect rest) now last × (NextMayBegin most first lines now.client × NextLineAsks dialect IsCutShort rest)
 StopsBy mode dialect most ScriptTooLong script first last lines rest now =
     IsBegun (BeginsBad dialect rest) now last × IsTooLong most script first lines rest now.client
 StopsBy mode dialect most ReadFault script first last lines rest now = IsBegun (BeginsBad dialect rest) now last
