@@ -1,2 +1,2 @@
--- the builds of the tests
+-- the builds of the tests of the protocol core
 pub mod Builds
