@@ -148,17 +148,16 @@ static LARGE: [Large; 4] = [
         11,
         5,
     ),
-    (
-        &[
-            ("int x;int f(void){return x;}void first(void){", 1),
-            ("x++;", 5_000),
-            ("}int main(void){", 1),
-            ("x++;", 5_001),
-            ("}", 1),
-        ],
-        33,
-        5,
-    ),
+    (TWO_LARGE, 33, 5),
+];
+
+/// A text with three functions, of which the second and the third have too many nodes.
+pub const TWO_LARGE: &[Part<'static>] = &[
+    ("int x;int f(void){return x;}void first(void){", 1),
+    ("x++;", 5_000),
+    ("}int main(void){", 1),
+    ("x++;", 5_001),
+    ("}", 1),
 ];
 
 #[test]

@@ -1,13 +1,15 @@
 // What comes back from jobs, collected in either order; and that the first refused function is reported.
 
-use super::helpers::{ONE, TWO, are_of, repeat, unit};
+use super::helpers::{ONE, TWO, are_of, unit};
 use super::trial::{Own, Trial, succeeds};
+use crate::refusals::TWO_LARGE;
 use cc_link::PieceFault;
 use cc_pool::{NoGate, Pool, PoolFault};
 use std::alloc::Global;
 use std::sync::Wait;
 use std::test::Fail;
 use tests_texts::lists::{alone, both};
+use tests_texts::parts::text_of;
 
 #[test]
 fn two_tickets_in_either_order(rt: HostRuntime) -> Result<(), Fail> {
@@ -36,16 +38,7 @@ fn the_least_that_is_refused(rt: HostRuntime) -> Result<(), Fail> {
 /// Two of three functions have too many nodes: whether the first of the two is reported, with the place and the length of its
 /// name.
 pub fn least_refused<N: Own, R: Wait>(rt: &R, alloc: Global, pool: Pool<N>) -> Result<bool, Fail> {
-    let mut text = Vec::new(alloc);
-    repeat(
-        &mut text,
-        b"int x;int f(void){return x;}void first(void){",
-        1,
-    )?;
-    repeat(&mut text, b"x++;", 5_000)?;
-    repeat(&mut text, b"}int main(void){", 1)?;
-    repeat(&mut text, b"x++;", 5_001)?;
-    repeat(&mut text, b"}", 1)?;
+    let text = text_of(alloc, TWO_LARGE)?;
     let mut pass = pool.pass(rt);
     let ticket = pool.submit(rt, alloc, &mut pass, unit(alloc, text.as_slice())?)?;
     let told = match pool.collect(rt, alloc, ticket) {

@@ -2,7 +2,7 @@ use denote.Param.Send.{sendable}
 use Rattle.std.proofs.Crossing.{crosses}
 use Rattle.cc_pool.proofs.Crossing.{typed_send, typed_sync}
 use Rattle.cc_pool.proofs.Sharing.{pool_send, pool_sync, pass_send}
-use Rattle.tests_pool.proofs.crowds.crowd.Goals as goal
+use Rattle.tests_link.proofs.pool.crowds.crowd.Goals as goal
 
 pub spawn-requires-send-F : goal.spawn-requires-send-F
 spawn-requires-send-F g c κs within =

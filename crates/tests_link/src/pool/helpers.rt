@@ -23,14 +23,6 @@ pub fn unit(alloc: Global, text: &[u8]) -> Result<Arc<TypedUnit>, Fail> {
     Ok(typed_unit(alloc, text)?)
 }
 
-/// Appends a part this many times.
-pub fn repeat(text: &mut Vec<u8>, part: &[u8], times: usize) -> Result<(), AllocError> {
-    for _ in 0..times {
-        text.extend_from_slice(part)?;
-    }
-    Ok(())
-}
-
 /// Whether these are exactly this many pieces of a text, one for each function, in order.
 pub fn are_of(pieces: &[Piece], text: &[u8], count: usize) -> bool {
     let mut right = pieces.len() == count;

@@ -3,7 +3,7 @@
 
 ghost use Rattle.std.specs.Prelude.{◌≡◌};
 
-use super::helpers::{Hold, are_of, repeat, unit};
+use super::helpers::{Hold, are_of, unit};
 use cc_pool::{FreshQueue, Pass, Pool, Queued};
 use cc_types::TypedUnit;
 use std::alloc::{AllocError, Global};
@@ -13,6 +13,7 @@ use std::sync::{Arc, Wait};
 use std::test::Fail;
 use std::thread;
 use std::thread::Threads;
+use tests_texts::parts::append;
 use tests_texts::worked::LONG;
 
 #[test]
@@ -35,15 +36,12 @@ fn sixteen_fill_the_queue(rt: HostRuntime) -> Result<(), Fail> {
 // A text with this many functions, the last of which is `main`.
 fn functions(alloc: Global, count: usize) -> Result<Vec<u8>, AllocError> {
     let mut text = Vec::new(alloc);
-    let mut name = Vec::new(alloc);
-    name.push(b'f')?;
-    for _ in 1..count {
-        repeat(&mut text, b"int ", 1)?;
-        repeat(&mut text, name.as_slice(), 1)?;
-        repeat(&mut text, b"(int x){return x;}", 1)?;
-        name.push(b'f')?;
+    for number in 1..count {
+        append(&mut text, "int ", 1)?;
+        append(&mut text, "f", number)?;
+        append(&mut text, "(int x){return x;}", 1)?;
     }
-    repeat(&mut text, b"int main(void){return 0;}", 1)?;
+    append(&mut text, "int main(void){return 0;}", 1)?;
     Ok(text)
 }
 
