@@ -1,4 +1,4 @@
-// Where two libraries differ.
+// How two libraries differ.
 
 use crate::helpers::{SUM, add, damaged, unit, with_commands};
 use cc_diff::{DiffFault, diff_disks, write_diff};
