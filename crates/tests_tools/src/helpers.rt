@@ -12,10 +12,7 @@ use std::sync::Arc;
 use std::test::Fail;
 
 /// Texts with their names.
-pub fn texts_of(
-    alloc: Global,
-    given: &[(&str, &str)],
-) -> Result<Vec<NamedText>, AllocError> {
+pub fn texts_of(alloc: Global, given: &[(&str, &str)]) -> Result<Vec<NamedText>, AllocError> {
     let mut texts = Vec::new(alloc);
     for (name, text) in given {
         let name = String::from_str(alloc, name)?;
