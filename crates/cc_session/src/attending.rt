@@ -41,16 +41,8 @@ fn is_closing<S: Spool>(spool: &mut S, meter: &Meter) -> bool
     spool.is_over() || meter.is_full()
 }
 
-// Does the scripts of a spool in a mode one after another, with one client of a service, until the spool says that no more are
-// to be taken, or the meter that all clients of the service share is full. At most 65,536 lines of each script are done, and
-// none after those whose receipts hold more than 256 MiB; if a script has more, its answer ends with the line for 52.
-//
-// A script that has run for long and is not at its end ends with 61 after its current line, or within a `run`, if others wait
-// (`is_long`, `is_awaited`) or the meter is full.
-//
-// A fault that ends a script, 51 to 54 or 61, ends only that script: its answer is handed over with the fault's number, and the
-// next is taken. The line of the fault is the answer's last, but 54 has no line: the spool decides what becomes of an answer
-// that can't be written.
+// Does the scripts of a spool in a mode one after another, as `serve` says, with one client of a service, until the spool says that
+// no more are to be taken, or the meter that all clients of the service share is full.
 pub(crate) fn attend<N, H, S, D>(
     rt: &H,
     alloc: Global,

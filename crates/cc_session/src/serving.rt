@@ -446,10 +446,16 @@ where
 }
 
 /// Opens the library on a disk as a service with this many workers, 1 to 8, and a client for each spool, at most 1,024. Each
-/// client runs the scripts that its spool gives in a mode, as `attend` does, until the spool is over or the clients together
+/// client runs the scripts that its spool gives in a mode, one after another, until the spool is over or the clients together
 /// have done as much as `bounds` says; then the service is ended. Each client does so in a thread of its own if one can be made;
 /// clients for which no thread can be made begin when others have ended. The workers pass `gate`, which can show how far a long
 /// `add` has got. `steward` is called when scripts are taken and, if they were, with how the service ended.
+///
+/// At most 65,536 lines of each script are done, and none after those whose receipts hold more than 256 MiB; if a script has more,
+/// its answer ends with the line for 52. A script that has run for long and is not at its end ends with 61 after its current line,
+/// or within a `run`, if others wait (`is_long`, `is_awaited`) or the bounds are reached. A fault that ends a script, 51 to 54 or
+/// 61, ends only that script: its answer is handed over with the fault's number, and the next is taken. The line of the fault is
+/// the answer's last, but 54 has no line: the spool decides what becomes of an answer that can't be written.
 ///
 /// The line for a fault of the opening (35, 37, 38, 40, 41; 30 if there are too many spools) or of the end (39, 40) goes to
 /// `writer`, and its explanation for a person to `explanations`. `end` is the first of these faults, or 39, and its line is
