@@ -1,7 +1,7 @@
 // Audits of all units: of those that the session itself compiled, and of those that were on the disk.
 
 use crate::helpers::{answers_on, first_wrong, with_record, with_record_in};
-use cc_link::compile;
+use cc_link::{Mode, compile};
 use cc_session::{NoGate, SessionEnd, session_and_explain};
 use std::alloc::Global;
 use std::sync::{Arc, Wait};
@@ -82,6 +82,7 @@ where
     let (disk, end) = session_and_explain(
         rt,
         alloc,
+        Mode::Plain,
         &mut script,
         &mut answers,
         &mut explanations,

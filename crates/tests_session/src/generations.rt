@@ -4,6 +4,7 @@
 use crate::helpers::{formatted, written_on};
 use crate::spools::{CLIENTS, Page, Paper, ROOM, is_right, page_of, script_of, spools_of_all};
 use cc_disk::{Disk, FuseDisk, FuseMode, MemoryDisk};
+use cc_link::Mode;
 use cc_session::{Bounds, Generation, GenerationEnd, Meter, Served, SessionEnd, Steward, serve_on};
 use cc_spool::MemorySpool;
 use std::alloc::{AllocError, Global};
@@ -82,6 +83,7 @@ where
     let left = serve_on(
         rt,
         alloc,
+        Mode::Plain,
         spools,
         &mut written,
         &mut told,

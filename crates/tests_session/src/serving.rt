@@ -6,6 +6,7 @@ use crate::spools::{
     spool_of, spools_of_all, without_numbers,
 };
 use cc_disk::MemoryDisk;
+use cc_link::Mode;
 use cc_session::{BOUNDS, NoGate, NoSteward, Served, SessionEnd, serve};
 use cc_spool::MemorySpool;
 use std::alloc::{AllocError, Global};
@@ -28,6 +29,7 @@ where
     serve(
         rt,
         alloc,
+        Mode::Plain,
         spools,
         written,
         &mut io::sink(),

@@ -2,6 +2,7 @@
 
 use crate::helpers::formatted;
 use crate::spools::{Page, Paper, ROOM, page_of, script_of};
+use cc_link::Mode;
 use cc_session::{Bounds, NoGate, NoSteward, SessionEnd, serve};
 use cc_spool::MemorySpool;
 use std::alloc::{AllocError, Global};
@@ -59,6 +60,7 @@ where
     let left = serve(
         rt,
         alloc,
+        Mode::Plain,
         spool_of(alloc, texts.as_slice(), is_long, is_awaited)?,
         &mut io::sink(),
         &mut io::sink(),

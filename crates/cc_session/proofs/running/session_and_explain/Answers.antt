@@ -5,7 +5,7 @@ use Rattle.cc_script.specs.Reading.{Ahead}
 use Rattle.cc_service.specs.declared.fault.ServiceFault.TheVariants.{Opening}
 use Rattle.cc_session.specs.Session.{EndsSince, HaveCalled}
 use Rattle.cc_session.proofs.Ends.{ends_on}
-use Rattle.cc_session.proofs.running.session_and_explain_in.Goals as goal
+use Rattle.cc_session.proofs.running.session_and_explain.Goals as goal
 
 pub returns-in-Ok : goal.returns-in-Ok
 returns-in-Ok g c =

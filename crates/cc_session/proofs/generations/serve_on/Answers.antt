@@ -2,7 +2,7 @@
 use Rattle.std.proofs.Common.{◌∙◌, zero, suc, map, refl}
 use Rattle.cc_session.specs.Spooling.{ServingEnds, given_by}
 use Rattle.cc_session.proofs.Chains.{goes_on_by, serves_one_more, serves_still}
-use Rattle.cc_session.proofs.generations.serve_on_in.Goals as goal
+use Rattle.cc_session.proofs.generations.serve_on.Goals as goal
 
 pub returns-then-not-is_well : goal.returns-then-not-is_well
 returns-then-not-is_well g c = record {

@@ -1,5 +1,5 @@
 -- The service's type names the ledger and the queue that were made for it, the map that the library was opened with, how many calls of its device had failed, and what a crash may leave at the session's beginning.
-use Rattle.cc_session.proofs.running.session_and_explain_in.Given as goal
+use Rattle.cc_session.proofs.running.session_and_explain.Given as goal
 
 abbrev pub ghosts-do_script-N-Ledger : goal.ghosts-do_script-N-Ledger
 ghosts-do_script-N-Ledger g a = record { name = a.begun.fresh.ledger; parts = 1025 }

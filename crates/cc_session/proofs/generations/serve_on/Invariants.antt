@@ -3,7 +3,7 @@ use Rattle.std.proofs.Common.{◌≡◌, ℕ, map}
 use Rattle.cc_session.specs.Generations.{ServesOn}
 use Rattle.cc_session.specs.Spooling.{ServingEnds, given_by}
 use Rattle.cc_session.proofs.Chains.{BeginsWell}
-use Rattle.cc_session.proofs.generations.serve_on_in.Given as goal
+use Rattle.cc_session.proofs.generations.serve_on.Given as goal
 
 abbrev pub invariant-loop : goal.invariant-loop
 invariant-loop g l =

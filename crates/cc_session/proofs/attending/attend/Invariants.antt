@@ -1,6 +1,6 @@
 -- The scripts taken so far are done and answered.
 use Rattle.cc_session.specs.Spooling.{HasDone, given_by}
-use Rattle.cc_session.proofs.attending.attend_in.Given as goal
+use Rattle.cc_session.proofs.attending.attend.Given as goal
 
 abbrev pub invariant-loop : goal.invariant-loop
 invariant-loop g l =
