@@ -1,10 +1,10 @@
 -- After what was done so far, no script is done, or one more.
-use Rattle.std.proofs.Common.{ℕ, List, Option, ap, refl, subst}
+use Rattle.std.proofs.Common.{ℕ, List, Option, Some, ap, refl, subst}
 use Rattle.cc_script.specs.Reading.{Ahead}
 use Rattle.cc_script.specs.declared.command.Dialect.TheVariants.{Served}
 use Rattle.cc_spool.specs.Spool.{delivered_as, taken_as}
 use Rattle.cc_session.specs.Playing.{talk}
-use Rattle.cc_session.specs.Spooling.{given_by, most_lines}
+use Rattle.cc_session.specs.Spooling.{given_by}
 use Rattle.cc_session.specs.internal.Steps.{IsPlayedBy}
 use Rattle.cc_session.proofs.Spooling.{after_two, done_by, done_on, done_same, done_script, one_more_first, one_more_last}
 use Rattle.cc_session.proofs.attending.attend.Goals.{in-None, in-Some+then-is_closing}
@@ -33,8 +33,8 @@ loop-preserved g c =
     let begun = g.S.Answer.Write.contents c.in-Some-next.answer in
     let answer = g.S.Answer.Write.contents c.tell_halt-played.new.answers in
     let heard = ap (λ (a : Ahead). a.rest) c.new-script.ensures in
-    let played = subst (λ (s : Option (List ℕ)). IsPlayedBy c.args.mode Served most_lines s (talk old begun) (talk new answer) c.tell_halt-played.result) heard
-    (c.tell_halt-played.ensures c.args.mode Served most_lines c.new-script.result.rest (talk old begun) new c.play-halted.ensures.halted) in
+    let played = subst (λ (s : Option (List ℕ)). IsPlayedBy c.args.mode Served (Some 65536) s (talk old begun) (talk new answer) c.tell_halt-played.result) heard
+    (c.tell_halt-played.ensures c.args.mode Served (Some 65536) c.new-script.result.rest (talk old begun) new c.play-halted.ensures.halted) in
     let given = g.S.Spool.taken in
     let handed = g.S.Spool.ended in
     let taken = one_more_first (given c.loop.spool) (given c.is_closing.new.spool) (given c.next-in-loop.new.self) (given c.deliver.new.self) (taken_as script begun)
