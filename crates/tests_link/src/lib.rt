@@ -6,38 +6,4 @@
 #![tactic(auto)]
 
 #[cfg(test)]
-mod audits;
-#[cfg(test)]
-mod checked;
-#[cfg(test)]
-mod comparisons;
-#[cfg(test)]
-mod earlier;
-#[cfg(test)]
-mod helpers;
-#[cfg(test)]
-mod limits;
-#[cfg(test)]
-mod memory;
-#[cfg(test)]
-mod numbered;
-#[cfg(test)]
-mod orders;
-#[cfg(test)]
-mod padded;
-#[cfg(test)]
-mod pool;
-#[cfg(test)]
-mod programs;
-#[cfg(test)]
-mod refusals;
-#[cfg(test)]
-mod registers;
-#[cfg(test)]
-mod rows;
-#[cfg(test)]
-mod sizes;
-#[cfg(test)]
-mod stages;
-#[cfg(test)]
-mod watched;
+mod tests;

@@ -5,24 +5,6 @@
 //! registers), `ltl`, `validate` (the judge of allocations) and `linear`. `pairs` takes a text to the RTL of its functions.
 #![tactic(auto)]
 
-#[cfg(test)]
-mod cminor;
-#[cfg(test)]
-mod colour;
 pub mod flow;
 #[cfg(test)]
-mod guarded;
-#[cfg(test)]
-mod linear;
-#[cfg(test)]
-mod list;
-#[cfg(test)]
-mod live;
-#[cfg(test)]
-mod ltl;
-#[cfg(test)]
-mod pairs;
-#[cfg(test)]
-mod rtl;
-#[cfg(test)]
-mod validate;
+mod tests;

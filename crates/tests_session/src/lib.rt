@@ -9,34 +9,4 @@
 #![tactic(auto)]
 
 #[cfg(test)]
-mod audits;
-#[cfg(test)]
-mod earlier;
-#[cfg(test)]
-mod failing;
-#[cfg(test)]
-mod files;
-#[cfg(test)]
-mod generations;
-#[cfg(test)]
-mod helpers;
-#[cfg(test)]
-mod hints;
-#[cfg(test)]
-mod names;
-#[cfg(test)]
-mod refusals;
-#[cfg(test)]
-mod scripts;
-#[cfg(test)]
-mod serving;
-#[cfg(test)]
-mod showing;
-#[cfg(test)]
-mod spool;
-#[cfg(test)]
-mod spools;
-#[cfg(test)]
-mod stopping;
-#[cfg(test)]
-mod updating;
+mod tests;

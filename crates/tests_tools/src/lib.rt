@@ -9,30 +9,4 @@
 #![tactic(auto)]
 
 #[cfg(test)]
-mod calls;
-#[cfg(test)]
-mod copies;
-#[cfg(test)]
-mod covered;
-#[cfg(test)]
-mod differences;
-#[cfg(test)]
-mod helpers;
-#[cfg(test)]
-mod in_files;
-#[cfg(test)]
-mod json;
-#[cfg(test)]
-mod lines;
-#[cfg(test)]
-mod logs;
-#[cfg(test)]
-mod measures;
-#[cfg(test)]
-mod open;
-#[cfg(test)]
-mod traced;
-#[cfg(test)]
-mod watches;
-#[cfg(test)]
-mod words;
+mod tests;
