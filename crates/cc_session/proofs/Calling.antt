@@ -5,8 +5,8 @@ use Rattle.cc_script.specs.declared.fault.ScriptFault.{ScriptFault}
 use Rattle.cc_history.specs.History.{MemberView}
 use Rattle.cc_c_semantics.specs.declared.mode.Mode.{Mode}
 use Rattle.cc_session.specs.Session.{HaveCalled}
-use Rattle.cc_session.specs.Playing.{talk}
-use Rattle.cc_session.specs.internal.Steps.{EndsFor, IsPlayedBy}
+use Rattle.cc_session.specs.Playing.{IsPlayedBy, talk}
+use Rattle.cc_session.specs.internal.Steps.{EndsFor}
 use Rattle.cc_session.specs.declared.end.SessionEnd.{SessionEnd}
 
 pub called_by : (mode : Mode) → {T : Type 0} (answer : Result T ScriptFault) (played : SessionEnd) (script before last after : Option (List ℕ)) (end : SessionEnd) (clients : List MemberView) (first now : MemberView)

@@ -12,9 +12,8 @@ use Rattle.cc_script.specs.declared.fault.ScriptFault.{ScriptFault}
 use Rattle.cc_history.specs.History.{MemberView}
 use Rattle.cc_spool.specs.Spool.{Delivered, Taken, delivered_as, taken_as}
 use Rattle.cc_c_semantics.specs.declared.mode.Mode.{Mode}
-use Rattle.cc_session.specs.Playing.{Grows, Talk, talk}
+use Rattle.cc_session.specs.Playing.{Grows, IsPlayedBy, Talk, talk}
 use Rattle.cc_session.specs.Spooling.{AreDoneBy, EndsBy, Given, HasDone, HaveDone, IsDoneBy}
-use Rattle.cc_session.specs.internal.Steps.{IsPlayedBy}
 use Rattle.cc_session.specs.internal.Ends.{EndOf}
 
 -- ---- one script

@@ -310,3 +310,8 @@ Grows old new = (new.number ≡ old.number) × ((more : List Receipt) × (new.re
 -- a fault that ends scripts ended the script, which is done up to the point that the fault says
 abbrev pub IsStopped : Mode → Dialect → (most : Option ℕ) (script : Option (List ℕ)) (old new : Talk) → ScriptFault → Type 0
 IsStopped mode dialect most script old new fault = IsEnding most fault × IfSome script (λ bytes. IsEndedBy mode dialect most fault bytes old new)
+
+-- the whole script is done; or a fault ended it, and it is done up to the point that the fault says
+abbrev pub IsPlayedBy : Mode → {T : Type 0} → Dialect → (most : Option ℕ) (script : Option (List ℕ)) (old new : Talk) → Result T ScriptFault → Type 0
+IsPlayedBy mode dialect most script old new (Ok done) = IfSome script (λ bytes. IsPlayed mode dialect most bytes old new)
+IsPlayedBy mode dialect most script old new (Err fault) = IsStopped mode dialect most script old new fault

@@ -10,10 +10,10 @@ ghost use Rattle.cc_history.specs.History.{MemberView};
 ghost use Rattle.cc_service.specs.Serving.{GetAnswers, ListAnswers, PutAnswers, Puts, WithdrawAnswers};
 ghost use Rattle.cc_service.specs.declared.fault.ServiceFault.TheVariants.{OutOfMemory, WorkersGone};
 ghost use Rattle.cc_service.specs.Updating.{UpdateAnswers};
-ghost use Rattle.cc_session.specs.Playing.{Audits, AuditsOne, CallsOn, Compacts, Grows, IsEnding, IsSent, IsSentTo, IsSentTwice, IsShortOfTwo, IsStoppedBy, IsUnended, IsUnendedOfTwo, Measures, Talk, talk, words_of};
+ghost use Rattle.cc_session.specs.Playing.{Audits, AuditsOne, CallsOn, Compacts, Grows, IsEnding, IsPlayedBy, IsSent, IsSentTo, IsSentTwice, IsShortOfTwo, IsStoppedBy, IsUnended, IsUnendedOfTwo, Measures, Talk, talk, words_of};
 ghost use Rattle.cc_session.specs.Telling.{SaysChange, SaysNames, SaysRunOn, SaysShown};
 ghost use Rattle.cc_session.specs.internal.Calls.{AuditsName, AuditsNames, CallsAndTells, DoesAndTells, DoesOr, RunsAndTells, TellsAudit, TellsRun, UpdatesIf};
-ghost use Rattle.cc_session.specs.internal.Steps.{IsDone, IsHalted, IsObeyed, IsPlayedBy, IsShortOf};
+ghost use Rattle.cc_session.specs.internal.Steps.{IsDone, IsHalted, IsObeyed, IsShortOf};
 
 use crate::auditing::{audit_found, explain_audit};
 use crate::held::Held;

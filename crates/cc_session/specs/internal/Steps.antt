@@ -13,7 +13,7 @@ use Rattle.cc_history.specs.Held.{at_most_told, receipts_bytes}
 use Rattle.cc_history.specs.History.{MemberView}
 use Rattle.cc_history.specs.declared.entry.Receipt.{Receipt}
 use Rattle.cc_c_semantics.specs.declared.mode.Mode.{Mode}
-use Rattle.cc_session.specs.Playing.{CutsLine, HasUnended, IsBegun, IsCutShort, IsEnding, IsLight, IsPlayed, IsStopped, IsStoppedBy, Obeys, Talk, held_since, talk}
+use Rattle.cc_session.specs.Playing.{CutsLine, HasUnended, IsBegun, IsCutShort, IsEnding, IsLight, IsPlayed, IsStoppedBy, Obeys, Talk, held_since, talk}
 use Rattle.cc_session.specs.declared.held.Held.{Held}
 use Rattle.cc_session.specs.declared.end.SessionEnd.{SessionEnd}
 use Rattle.cc_session.specs.declared.end.SessionEnd.TheVariants.{Finished, Fault}
@@ -104,11 +104,6 @@ IsObeyed mode most asked before after old new (Err fault) = IsObeyedNot mode mos
 abbrev pub IsHalted : Mode → {T : Type 0} → Dialect → (most : Option ℕ) (script : Option (List ℕ)) (old new : Talk) → Result T ScriptFault → Type 0
 IsHalted mode dialect most script old new (Ok done) = IfSome script (λ bytes. IsPlayed mode dialect most bytes old new)
 IsHalted mode dialect most script old new (Err fault) = IsEnding most fault × IfSome script (λ bytes. IsStoppedBy mode dialect most fault bytes old new)
-
--- the whole script is done; or a fault ended it, and it is done up to the point that the fault says
-abbrev pub IsPlayedBy : Mode → {T : Type 0} → Dialect → (most : Option ℕ) (script : Option (List ℕ)) (old new : Talk) → Result T ScriptFault → Type 0
-IsPlayedBy mode dialect most script old new (Ok done) = IfSome script (λ bytes. IsPlayed mode dialect most bytes old new)
-IsPlayedBy mode dialect most script old new (Err fault) = IsStopped mode dialect most script old new fault
 
 -- how a session ends if its script ended with this result
 abbrev pub EndsFor : {T : Type 0} → Result T ScriptFault → SessionEnd → Type 0

@@ -3,9 +3,8 @@ use Rattle.std.proofs.Common.{ℕ, List, Option, Some, ap, refl, subst}
 use Rattle.cc_script.specs.Reading.{Ahead}
 use Rattle.cc_script.specs.declared.command.Dialect.TheVariants.{Served}
 use Rattle.cc_spool.specs.Spool.{delivered_as, taken_as}
-use Rattle.cc_session.specs.Playing.{talk}
+use Rattle.cc_session.specs.Playing.{IsPlayedBy, talk}
 use Rattle.cc_session.specs.Spooling.{given_by}
-use Rattle.cc_session.specs.internal.Steps.{IsPlayedBy}
 use Rattle.cc_session.proofs.Spooling.{after_two, done_by, done_on, done_same, done_script, one_more_first, one_more_last}
 use Rattle.cc_session.proofs.attending.attend.Goals.{in-None, in-Some+then-is_closing}
 use Rattle.cc_session.proofs.attending.attend.Goals as goal
