@@ -1,6 +1,7 @@
 // Cminor with guards.
 
-use crate::tests::pairs::{cminor_of, unit_of};
+use crate::tests::pairs::unit_of;
+use cc_cminor::to_cminor;
 use cc_guard::guard;
 use std::alloc::Global;
 use std::test::Fail;
@@ -136,7 +137,10 @@ static SHOWN: [Shown; 5] = [
 // Whether the Cminor with guards of a function has these lines.
 fn is_shown(alloc: Global, row: &Shown) -> Result<bool, Fail> {
     let unit = unit_of(alloc, row.0.as_bytes())?;
-    let pair = cminor_of(alloc, &unit, row.1)?;
+    if row.1 >= unit.functions() {
+        return Ok(false);
+    }
+    let pair = to_cminor(alloc, &unit, row.1)?;
     drop(unit);
     let made = guard(alloc, pair)?;
     let shown = made.to_string(alloc);
