@@ -12,8 +12,8 @@ crate, in processor seconds, and if the run passed, the same is written to tools
     lines   of src/, proofs left out
     P       a whole proof from scratch
     tests   the proof of its tests, if it has any, and their build
-    first   its first must-fail edit, which is a whole check again
-    e       each further edit, on average
+    first   its second proof, over which its must-fail edits are tried; a single edit is a whole check by itself
+    e       each edit over that proof, on average
     n       a check that changes nothing, which the gate makes after the edits
     sum     all of these
 
@@ -45,8 +45,12 @@ class Cost:
         self.name = name
         self.lines, self.proof, self.tests, self.count, self.first, self.each, self.again = (float(it.replace("-", "0")) for it in cells)
 
+    def edits(self):
+        """Returns the seconds of the edits that are tried over a second proof: none if there is one edit."""
+        return self.each * self.count if self.count > 1 else 0
+
     def whole(self):
-        return self.proof + self.tests + self.first + self.each * max(self.count - 1, 0) + self.again
+        return self.proof + self.tests + self.first + self.edits() + self.again
 
     def line(self):
         cells = [f"{it:.0f}" for it in (self.lines, self.proof, self.tests, self.count, self.first)] + [f"{it:.1f}" for it in (self.each, self.again)]
@@ -160,7 +164,7 @@ def sums(names, found):
         kinds["test crates" if it.name.startswith("tests_") else "the two programs" if it.name in PROGRAMS else "the libraries' own proofs"].append(it)
     parts = {kind: sum(it.proof + it.tests for it in kinds[kind]) for kind in ("the libraries' own proofs", "test crates", "the two programs")}
     parts["second proofs for edits"] = sum(it.first for it in own)
-    parts["further edits"] = sum(it.each * max(it.count - 1, 0) for it in own)
+    parts["edits over them"] = sum(it.edits() for it in own)
     parts["checks after them"] = sum(it.again for it in own)
     return sum(parts.values()), parts
 
@@ -196,9 +200,9 @@ class Row:
         edits = [sum(it.seconds for it in room) for room in rooms.values()]
         self.count = len([it for it in os.listdir(f"{folder}/crates/{name}/must-fail")]) if edits else 0
         self.first = edits[0] if edits else 0
-        further = edits[1 : self.count]
-        self.each = sum(further) / len(further) if further else 0
-        self.again = edits[self.count] if len(edits) > self.count else 0
+        over = edits[1 : self.count + 1] if self.count > 1 else []
+        self.each = sum(over) / len(over) if over else 0
+        self.again = sum(edits[self.count + 1 :])
         self.whole = self.proof + self.tests + sum(edits)
         self.wall, self.edits_wall = span(proof), span([it for it in own if it.is_edit])
 

@@ -87,8 +87,8 @@ a_test() {
 gcc -shared -fPIC -O1 -o "$work/refuse.so" "$top/tests/outside/shims/refuse.c" -ldl
 case ${1:-} in
     program) program ;;
-    compile) a_test tests_link memory::every_growth_of_compile '' ;;
-    list) a_test tests_rtl list::a_refused_growth_hands_the_item_back '' ;;
+    compile) a_test tests_link tests::memory::every_growth_of_compile '' ;;
+    list) a_test tests_passes tests::list::a_refused_growth_hands_the_item_back '' ;;
     store) a_test tests_store library::memory::every_growth_comes_before_the_device '"not (opened|added)"|' ;;
     service)
         for name in every_growth_of_an_add every_growth_of_a_put_ahead; do

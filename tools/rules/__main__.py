@@ -26,6 +26,7 @@ RULES = {
     rule.__name__: rule
     for rule in (
         edits.budget,
+        edits.by_hand,
         rooms.rooms,
         rooms.of_proofs,
         rooms.repetitions,
@@ -85,6 +86,7 @@ def plants():
     return [
         ("budget", edit_files("cc_words", 13), "cc_words has"),
         ("budget", {path: "" for number in range(12) for path in edit_files(f"planted_{number}", 12)}, "in all"),
+        ("by_hand", changed("crates/cc_syntax/src/parser/settle.rt", ("if waits {", "if waits && true {")), "else_belongs_to_the_outer_if.edit: src/parser"),
         ("rooms", changed(WORDS, more=DEFINED), "Words: planted: no public contract rests on it"),
         ("rooms", changed(ROLES, more=DEFINED) | changed(ROLES_CODE, more=TAKEN + FUNCTION), "Roles: planted: a public contract rests on it"),
         ("rooms", changed(ROLES, more=DEFINED) | changed(ROLES_CODE, more=TAKEN + MODEL), "Roles: planted: the model of a public type rests on it"),

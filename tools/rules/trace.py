@@ -14,6 +14,9 @@ CRATES = TOP / "crates"
 CITED = re.compile(r"`([\w:]+)` of `(cc_\w+)`(?: \(((?:`\w+`(?:, )?)+)\))?")
 NAMED = re.compile(r"`(\w+)`: ((?:`[\w/]+`(?:, )?)+)")
 QUOTED = re.compile(r"`([\w/]+)`")
+# A wrong body that tests/outside/edits.py tries, and not the gate, is marked.
+EDIT = re.compile(r"`(\w+)`(†?)")
+EDITS = re.compile(r"`(\w+)`: ((?:`\w+`†?(?:, )?)+)")
 WITHOUT = ("tested only", "argued only")
 
 
@@ -55,6 +58,11 @@ def is_module_of(crate, name):
     return any((CRATES / crate / room / f"{name}.rt").is_file() for room in ("src", "src/tests"))
 
 
+def edit_file(crate, name, by_hand):
+    """Returns the path of a wrong body: of one that is tried by hand, or of one that the gate tries."""
+    return (TOP / "tests/outside/edits" / crate if by_hand else CRATES / crate / "must-fail") / f"{name}.edit"
+
+
 def rows():
     """Returns the rows of the first table of docs/TRACE.md, each as its cells."""
     text = (TOP / "docs" / "TRACE.md").read_text()
@@ -70,8 +78,8 @@ def not_in_row(row):
     for crate, modules in NAMED.findall(tests):
         yield from (f"{crate}: `{it}`" for it in QUOTED.findall(modules) if not is_module_of(crate, it))
     yield from (it for it in re.findall(r"`((?:bench|tests/outside|tools)/[\w.]+)`", tests) if not (TOP / it).is_file())
-    for crate, names in NAMED.findall(edits):
-        yield from (f"{crate}: `{it}`" for it in QUOTED.findall(names) if not (CRATES / crate / "must-fail" / f"{it}.edit").is_file())
+    for crate, names in EDITS.findall(edits):
+        yield from (f"{crate}: `{it}`{by_hand}" for it, by_hand in EDIT.findall(names) if not edit_file(crate, it, by_hand).is_file())
 
 
 def promised():
@@ -94,10 +102,11 @@ def traced():
 
 def left():
     """Prints the wrong bodies and test modules that no row names."""
-    named = {(crate, it) for row in rows() for cell in row[3:] for crate, names in NAMED.findall(cell) for it in QUOTED.findall(names)}
+    named = {(crate, it) for row in rows() for cell in row[3:] for crate, names in EDITS.findall(cell) + NAMED.findall(cell) for it in QUOTED.findall(names)}
     for crate in sorted(it for it in CRATES.iterdir() if it.is_dir()):
         tests = crate.rglob("src/**/*.rt") if crate.name.startswith("tests_") else []
         files = {str(it.relative_to(crate / "src").with_suffix("")): it for it in tests} | {it.stem: it for it in crate.glob("must-fail/*.edit")}
+        files |= {it.stem: it for it in (TOP / "tests/outside/edits" / crate.name).glob("*.edit")}
         for name, path in sorted(files.items()):
             if (crate.name, name) not in named:
                 print(path.relative_to(TOP))

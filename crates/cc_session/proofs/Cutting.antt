@@ -13,7 +13,7 @@ use Rattle.cc_c_semantics.specs.declared.mode.Mode.{Mode}
 use Rattle.cc_service.specs.Serving.{GetAnswers}
 use Rattle.cc_service.specs.declared.fault.ServiceFault.{ServiceFault}
 use Rattle.cc_session.specs.Playing.{CutsLine, Grows, Obeys, Talk, talk}
-use Rattle.cc_session.specs.Telling.{SaysRun, no_memory_text, refusal_text}
+use Rattle.cc_session.specs.Telling.{SaysRunOn, no_memory_text, refusal_text}
 use Rattle.cc_session.specs.internal.Calls.{RunsAndTells, RunsNot, TellsRun, TellsRunNot}
 use Rattle.cc_session.specs.internal.Steps.{IsObeyed, IsObeyedNot}
 use Rattle.cc_session.proofs.Growing.{get_grows}
@@ -29,7 +29,7 @@ not_stopped {A} is = absurd (subst (λ (f : ScriptFault). IsOther f) is tt)
 
 -- ---- what is written for a unit that was found
 
-told_not : (fault : ScriptFault) (most : Option ℕ) (steps : ℕ) (receipt : Receipt) (old new : Option (List ℕ)) (text : List ℕ) → SaysRun steps (Ok receipt) text → fault ≡ WriteFault
+told_not : (fault : ScriptFault) (most : Option ℕ) (steps : ℕ) (receipt : Receipt) (old new : Option (List ℕ)) (text : List ℕ) → SaysRunOn [] steps (Ok receipt) text → fault ≡ WriteFault
     → TellsRunNot most steps receipt old new fault
 told_not BadLine most steps receipt old new text says is = (is, text, says)
 told_not EndOfScript most steps receipt old new text says is = (is, text, says)
@@ -38,7 +38,7 @@ told_not ReadFault most steps receipt old new text says is = (is, text, says)
 told_not WriteFault most steps receipt old new text says is = (is, text, says)
 told_not Stopped most steps receipt old new text says is = not_stopped is
 
-pub told_run : {T : Type 0} (result : Result T ScriptFault) (most : Option ℕ) (steps : ℕ) (receipt : Receipt) (old new : Option (List ℕ)) (text : List ℕ) → SaysRun steps (Ok receipt) text
+pub told_run : {T : Type 0} (result : Result T ScriptFault) (most : Option ℕ) (steps : ℕ) (receipt : Receipt) (old new : Option (List ℕ)) (text : List ℕ) → SaysRunOn [] steps (Ok receipt) text
     → Tells old new text result → TellsRun most steps receipt old new result
 told_run (Ok done) most steps receipt old new text says told = (text, says, told.1)
 told_run (Err fault) most steps receipt old new text says told = told_not fault most steps receipt old new text says told.0

@@ -19,10 +19,16 @@ use Rattle.cc_recorded.specs.Since.{IsPast}
 use Rattle.cc_service.specs.Serving.{IsNotOpened, IsNotStarted}
 use Rattle.cc_service.specs.declared.fault.ServiceFault.{ServiceFault}
 use Rattle.cc_service.specs.declared.fault.ServiceFault.TheVariants as service
-use Rattle.cc_session.specs.Session.{EndsSince, IsEnded, IsLeft, IsUnopened, ServiceEnds}
+use Rattle.cc_session.specs.Session.{EndsSince, IsEnded, IsLeft, IsUnopened}
 use Rattle.cc_session.specs.internal.Ends.{given_up_after}
 use Rattle.cc_session.specs.declared.end.SessionEnd.{SessionEnd}
 use Rattle.cc_session.specs.declared.end.SessionEnd.TheVariants.{Finished, Fault}
+
+-- the service of some clients was ended or given up; `Worked` says what they did, depending on how their work ended
+abbrev pub HasEnded : {Disk : Type 0} (D : Ghosts Disk) (failures : ℕ) (bytes : List ℕ) (from : ℕ) (left : List ℕ → Type 0)
+    (Worked : (clients : List MemberView) (played : SessionEnd) → Type 0) → SessionEnd → (after : Disk) → Type 0
+HasEnded D failures bytes from left Worked end after =
+    (clients : List MemberView) × (played : SessionEnd) × Worked clients played × IsEnded D failures bytes from left clients played end after
 
 -- the faults of the library's opening, stated for the bytes that were seen before
 pub open_faults_on : (honest : Bool) (seen later : List ℕ) (before after : ℕ) (fault : LibraryFault) → (IsTrue honest → later ≡ seen)
@@ -161,7 +167,7 @@ module _ {Disk : Type 0} (D : Ghosts Disk) where
   pub ends_on : (Untouched : Type 0) (HaveDone : List MemberView → SessionEnd → Type 0) (first a b after : Disk) (end : SessionEnd)
       → first ≡ a → D.failures b ≡ D.failures a → (IsTrue D.honest → OnlyReads D.seen D.may_leave D.moment D.left_since a b)
       → EndsSince D (D.moment first) (D.may_leave first) Untouched HaveDone b after end
-      → ServiceEnds D Untouched HaveDone a after end
+      → EndsSince D (D.moment a) (D.may_leave a) Untouched HaveDone a after end
   ends_on Untouched HaveDone first a b after end is sound reads it =
       subst (λ (d : Disk). EndsSince D (D.moment d) (D.may_leave d) Untouched HaveDone a after end) is
       (on_first (D.moment first) (D.may_leave first) Untouched HaveDone a b after end sound reads it)

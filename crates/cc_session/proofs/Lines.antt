@@ -1,6 +1,6 @@
 -- The lines of a script are its steps, each of at least one byte. If the script stopped, its client is as these steps left it.
 use Rattle.std.proofs.Common.{◌≡◌, ℕ, ◌+◌, ◌<◌, ◌≤◌, List, [], ◌∷◌, ◌++◌, length, take, Option, Some, None, ap, refl, sym, ◌∙◌, subst, arith, inl, inr}
-use Rattle.std.specs.Prelude.{◌⊎◌, ◌≢◌, IfSome}
+use Rattle.std.specs.Prelude.{◌⊎◌, ◌≢◌, IfSome, IsSome}
 use Rattle.std.specs.Io.KnownBytes.{Appends}
 use Rattle.std.proofs.KnownBytes.{Appends-nil}
 use Rattle.std.proofs.lemmas.List.{length-append, length-take}
@@ -13,10 +13,10 @@ use Rattle.cc_script.specs.declared.script.NextLine.TheVariants.{End, Line, TooL
 use Rattle.cc_answers.specs.Telling.{script_fault_text}
 use Rattle.cc_history.specs.History.{MemberView}
 use Rattle.cc_c_semantics.specs.declared.mode.Mode.{Mode}
-use Rattle.cc_session.specs.Playing.{BeginsBad, CutsLine, CutsNext, HasUnended, IsBegun, IsBounded, IsCutIn, IsCutShort, IsEnding, IsEndedBy, IsLight, IsPlayed, IsPlayedInPart, IsPlayedTill, IsPlayedUpTo, IsStep, IsStopped, IsStoppedBy, IsTooLong, IsWithin, Obeys, Plays, Talk, Turn, Writes, asked_by_line, talk}
+use Rattle.cc_session.specs.Playing.{BeginsBad, CutsLine, HasUnended, IsBegun, IsCutShort, IsEnding, IsEndedBy, IsLight, IsPlayed, IsPlayedUpTo, IsStep, IsStopped, IsStoppedBy, IsTooLong, IsWithin, NextLineAsks, NextMayBegin, Obeys, Plays, StopsBy, Talk, Turn, Writes, asked_by_line, talk}
 use Rattle.cc_session.specs.internal.Steps.{EndsBehind, IsLimit, IsNoLine, IsNotDone, IsObeyedNot, MayGoOn}
 use Rattle.cc_session.proofs.Cutting.{cut_obeyed}
-use Rattle.cc_session.proofs.Playing.{asks_short, between_none, between_on, known, known_both, known_by, known_map, known_then, more_before, obeyed_step, played, played_up_to, plays_on, too_long, too_long_step, unread_before}
+use Rattle.cc_session.proofs.Playing.{IsPlayedInPart, asks_short, between_none, between_on, known, known_both, known_by, known_map, known_then, more_before, obeyed_step, played, played_up_to, plays_on, too_long, too_long_step, unread_before}
 
 -- ---- lines that are done
 
@@ -117,30 +117,38 @@ script_ends mode dialect most x y z count start now line one next =
     known_then x y (Played mode dialect most count start now) (λ b. b ≡ []) (λ b. IsPlayed mode dialect most b start now) one (known_by y z (λ b a. IsNext b End line a) (λ b. b ≡ []) next (λ b a none. none))
     (λ b m it none. played mode dialect most b start it.turns m now (few_of mode dialect most count start now b m it) it.plays none)
 
+-- a script stopped within a source of its next line, which may be begun
+abbrev pub IsCutIn : Dialect → (most : Option ℕ) (first : MemberView) (lines : ℕ) (rest : List ℕ) (now : MemberView) → Type 0
+IsCutIn dialect most first lines rest now = NextMayBegin most first lines now × NextLineAsks dialect IsCutShort rest
+
+-- A prefix of the script is done, and at most 50 was written for the next line. `Stops` holds at that point.
+abbrev pub StopsBefore : (mode : Mode) → Dialect → (most : Option ℕ) (script : List ℕ) (Stops : (lines : ℕ) (rest : List ℕ) (now : MemberView) → Type 0) (first last : Talk) → Type 0
+StopsBefore mode dialect most script Stops first last =
+    IsPlayedUpTo mode dialect most script (λ lines rest now. IsBegun (BeginsBad dialect rest) now last × Stops lines rest now.client) first
+
 -- a script stopped after the lines so far, with `rest` left: at most 50 was written for the next line, and `Stops` holds
 abbrev pub Halts : (dialect : Dialect) (most : Option ℕ) (count : ℕ) (now last : Talk) (Stops : List ℕ → ℕ → List ℕ → MemberView → Type 0) (rest : List ℕ) → Type 0
 Halts dialect most count now last Stops rest = IsBegun (BeginsBad dialect rest) now last × ((script : List ℕ) → IsWithin most count → Stops script count rest now.client)
 
 -- if the script stopped after the lines so far, it is played up to that point
 up_to : (mode : Mode) → (dialect : Dialect) (most : Option ℕ) (x y : Ahead) (count : ℕ) (start now last : Talk) (Stops : List ℕ → ℕ → List ℕ → MemberView → Type 0) → Between x y (Played mode dialect most count start now)
-    → IfSome y.rest (Halts dialect most count now last Stops) → IfSome x.rest (λ b. IsPlayedUpTo mode dialect most b (Stops b) start last)
+    → IfSome y.rest (Halts dialect most count now last Stops) → IfSome x.rest (λ b. StopsBefore mode dialect most b (Stops b) start last)
 up_to mode dialect most x y count start now last Stops one stops =
-    known_then x y (Played mode dialect most count start now) (Halts dialect most count now last Stops) (λ b. IsPlayedUpTo mode dialect most b (Stops b) start last) one stops
+    known_then x y (Played mode dialect most count start now) (Halts dialect most count now last Stops) (λ b. StopsBefore mode dialect most b (Stops b) start last) one stops
     (λ b m it why. record {
       turns = it.turns;
       few = few_of mode dialect most count start now b m it;
       rest = m;
       between = now;
       plays = it.plays;
-      begun = why.0;
-      stops = subst (λ (n : ℕ). Stops b n m now.client) (sym it.many) (why.1 b it.few);
+      stops = (why.0, subst (λ (n : ℕ). Stops b n m now.client) (sym it.many) (why.1 b it.few));
     })
 
 anywhere : (mode : Mode) → (dialect : Dialect) (most : Option ℕ) (x y : Ahead) (count : ℕ) (start now last : Talk) → Between x y (Played mode dialect most count start now)
-    → IfSome y.rest (λ rest. IsBegun (BeginsBad dialect rest) now last) → IfSome x.rest (λ b. IsPlayedUpTo mode dialect most b (λ lines rest client. Unit {0}) start last)
+    → IfSome y.rest (λ rest. IsBegun (BeginsBad dialect rest) now last) → IfSome x.rest (λ b. IsStoppedBy mode dialect most ReadFault b start last)
 anywhere mode dialect most x y count start now last one begun =
-    up_to mode dialect most x y count start now last (λ script lines rest client. Unit {0}) one
-    (known_map y.rest (λ rest. IsBegun (BeginsBad dialect rest) now last) (Halts dialect most count now last (λ script lines rest client. Unit {0})) begun (λ rest it. (it, λ script few. tt)))
+    known_then x y (Played mode dialect most count start now) (λ rest. IsBegun (BeginsBad dialect rest) now last) (λ b. IsStoppedBy mode dialect most ReadFault b start last) one begun
+    (λ b m it why. record { turns = it.turns; few = few_of mode dialect most count start now b m it; rest = m; between = now; plays = it.plays; stops = why })
 
 -- nothing of the next line was done
 unbegun : (dialect : Dialect) (o : Option (List ℕ)) (now : Talk) → IfSome o (λ rest. IsBegun (BeginsBad dialect rest) now now)
@@ -152,20 +160,19 @@ by_bytes None script first lines rest now long = long
 by_bytes (Some most) script first lines rest now long = inl long
 
 too_long_there : (mode : Mode) → (dialect : Dialect) (most : Option ℕ) (x y : Ahead) (count : ℕ) (start now last : Talk) → x.left ≡ 16777216 → Between x y (Played mode dialect most count start now) → HasMore y
-    → IfSome y.rest (λ rest. IsBegun (BeginsBad dialect rest) now last) → IfSome x.rest (λ b. IsPlayedUpTo mode dialect most b (IsTooLong most b start.client) start last)
+    → IfSome y.rest (λ rest. IsBegun (BeginsBad dialect rest) now last) → IfSome x.rest (λ b. IsStoppedBy mode dialect most ScriptTooLong b start last)
 too_long_there mode dialect most x y count start now last whole one more begun =
     let long = too_long x whole (more_before x y (Played mode dialect most count start now) one more) in
     let there = anywhere mode dialect most x y count start now last one begun in
-    known_map x.rest (λ b. (16777216 < length b) × IsPlayedUpTo mode dialect most b (λ lines rest client. Unit {0}) start last) (λ b. IsPlayedUpTo mode dialect most b (IsTooLong most b start.client) start last)
-    (known_both x.rest (λ b. 16777216 < length b) (λ b. IsPlayedUpTo mode dialect most b (λ lines rest client. Unit {0}) start last) long there)
+    known_map x.rest (λ b. (16777216 < length b) × IsStoppedBy mode dialect most ReadFault b start last) (λ b. IsStoppedBy mode dialect most ScriptTooLong b start last)
+    (known_both x.rest (λ b. 16777216 < length b) (λ b. IsStoppedBy mode dialect most ReadFault b start last) long there)
     (λ b it. record {
       turns = it.1.turns;
       few = it.1.few;
       rest = it.1.rest;
       between = it.1.between;
       plays = it.1.plays;
-      begun = it.1.begun;
-      stops = by_bytes most b start.client (length it.1.turns) it.1.rest it.1.between.client it.0;
+      stops = (it.1.stops, by_bytes most b start.client (length it.1.turns) it.1.rest it.1.between.client it.0);
     })
 
 -- a script that is not at its end is too long if as many lines are done as are allowed, or if the receipts hold too much
@@ -202,14 +209,13 @@ limit_ends mode dialect most x y count start now ReadFault one bound some = absu
 limit_ends mode dialect most x y count start now WriteFault one bound some = absurd bound
 limit_ends mode dialect most x y count start now Stopped one bound some = (
   bound,
-  known_then x y (Played mode dialect most count start now) (λ b. b ≢ []) (λ b. IsPlayedTill mode dialect most b start now) one some (λ b m it left. record {
+  known_then x y (Played mode dialect most count start now) (λ b. b ≢ []) (λ b. IsStoppedBy mode dialect most Stopped b start now) one some (λ b m it left. record {
     turns = it.turns;
     few = few_of mode dialect most count start now b m it;
     rest = m;
     between = now;
     plays = it.plays;
-    left = left;
-    then_is = inl refl;
+    stops = (left, inl refl);
   }),
 )
 
@@ -251,7 +257,7 @@ bad_line dialect y m old new n line few next (inr (bad, wrote)) =
         line = take n line;
         rest = k;
         is_line = is.1;
-        unended = subst (λ (asked : Option ScriptRequest). HasUnended asked k) (sym (asks_short dialect (take n line) (short n line few))) unended;
+        holds = subst (λ (asked : Option ScriptRequest). HasUnended asked k) (sym (asks_short dialect (take n line) (short n line few))) unended;
       }),
       wrote,
     ))
@@ -269,18 +275,17 @@ line_ends mode dialect most x y m count start old new n line EndOfScript few mor
     next ended.1 (λ b k is cut. (
       inl refl,
       λ script within. (
-        within_more most count within more.0,
-        more.1,
+        (within_more most count within more.0, more.1),
         record {
           line = take n line;
           rest = k;
           is_line = is.1;
-          short = subst (λ (asked : Option ScriptRequest). IsCutShort asked k) (sym (asks_short dialect (take n line) (short n line few))) cut;
+          holds = subst (λ (asked : Option ScriptRequest). IsCutShort asked k) (sym (asks_short dialect (take n line) (short n line few))) cut;
         },
       ),
     )) in (
       tt,
-      subst (λ (h : Talk). IfSome x.rest (λ b. IsPlayedUpTo mode dialect most b (IsCutIn dialect most start.client) start h)) (sym ended.0)
+      subst (λ (h : Talk). IfSome x.rest (λ b. StopsBefore mode dialect most b (IsCutIn dialect most start.client) start h)) (sym ended.0)
           (up_to mode dialect most x y count start old old (λ script. IsCutIn dialect most start.client) one stops),
     )
 line_ends mode dialect most x y m count start old new n line ScriptTooLong few more whole one next ended = (
@@ -301,33 +306,32 @@ line_ends mode dialect most x y m count start old new n line WriteFault few more
           (λ b. IsPlayedInPart mode dialect most b start new) one last
           (λ b k it how. played_up_to mode dialect most b start it.turns k old new (few_of mode dialect most count start old b k it) it.plays (elim how [
             | inl same ↦ inl same
-            | inr step ↦ inr (subst (λ (l : ℕ). IsWithin most (l + 1)) (sym it.many) (within_more most count it.few more.0), more.1, step.0, step.1, step.2)
+            | inr step ↦ inr ((subst (λ (l : ℕ). IsWithin most (l + 1)) (sym it.many) (within_more most count it.few more.0), more.1), step.0, step.1, step.2)
           ])),
     )
 
 -- the script ends at a `run` that was cut off
 cut_ends : (mode : Mode) → (dialect : Dialect) (most : Option ℕ) (x y m : Ahead) (count : ℕ) (start old new : Talk) (n : ℕ) (line : List ℕ) → n ≤ 128 → MayGoOn most start.client count old.client
-    → Between x y (Played mode dialect most count start old) → Between y m (λ b a. IsNext b (Line n) line a) → IsBounded most → CutsLine (asked_of dialect (take n line)) old new
+    → Between x y (Played mode dialect most count start old) → Between y m (λ b a. IsNext b (Line n) line a) → IsSome most → CutsLine (asked_of dialect (take n line)) old new
     → IsHaltedBy mode dialect most x.rest start new Stopped
 cut_ends mode dialect most x y m count start old new n line few more one next bounded cut =
-    let there = known_by y m (λ b a. IsNext b (Line n) line a) (λ b. (b ≢ []) × CutsNext dialect b old new) next (λ b k is. (
+    let there = known_by y m (λ b a. IsNext b (Line n) line a) (λ b. (b ≢ []) × NextLineAsks dialect (λ asked after. CutsLine asked old new) b) next (λ b k is. (
       is.0,
       record {
         line = take n line;
         rest = k;
         is_line = is.1;
-        cut = subst (λ (asked : Option ScriptRequest). CutsLine asked old new) (sym (asks_short dialect (take n line) (short n line few))) cut;
+        holds = subst (λ (asked : Option ScriptRequest). CutsLine asked old new) (sym (asks_short dialect (take n line) (short n line few))) cut;
       },
     )) in (
       bounded,
-      known_then x y (Played mode dialect most count start old) (λ b. (b ≢ []) × CutsNext dialect b old new) (λ b. IsPlayedTill mode dialect most b start new) one there (λ b k it cuts. record {
+      known_then x y (Played mode dialect most count start old) (λ b. (b ≢ []) × NextLineAsks dialect (λ asked after. CutsLine asked old new) b) (λ b. IsStoppedBy mode dialect most Stopped b start new) one there (λ b k it cuts. record {
         turns = it.turns;
         few = few_of mode dialect most count start old b k it;
         rest = k;
         between = old;
         plays = it.plays;
-        left = cuts.0;
-        then_is = inr (subst (λ (l : ℕ). IsWithin most (l + 1)) (sym it.many) (within_more most count it.few more.0), more.1, cuts.1);
+        stops = (cuts.0, inr ((subst (λ (l : ℕ). IsWithin most (l + 1)) (sym it.many) (within_more most count it.few more.0), more.1), cuts.1));
       }),
     )
 
@@ -347,15 +351,14 @@ pub lines_end : (mode : Mode) → (dialect : Dialect) (most : Option ℕ) (x y :
     → IsHaltedBy mode dialect most x.rest start now ScriptTooLong
 lines_end mode dialect most x y count start now many one = (
   tt,
-  known_by x y (Played mode dialect most count start now) (λ b. IsPlayedUpTo mode dialect most b (IsTooLong most b start.client) start now) one
+  known_by x y (Played mode dialect most count start now) (λ b. IsStoppedBy mode dialect most ScriptTooLong b start now) one
       (λ b a it. record {
         turns = it.turns;
         few = few_of mode dialect most count start now b a it;
         rest = a;
         between = now;
         plays = it.plays;
-        begun = inl refl;
-        stops = by_bytes most b start.client (length it.turns) a now.client (omega (arith, many, it.takes));
+        stops = (inl refl, by_bytes most b start.client (length it.turns) a now.client (omega (arith, many, it.takes)));
       }),
 )
 
@@ -365,32 +368,34 @@ client_of : (Bad : Type 0) (old new : Talk) → IsBegun Bad old new → new.clie
 client_of Bad old new (inl same) = ap (λ (t : Talk). t.client) same
 client_of Bad old new (inr (bad, wrote)) = wrote.0
 
-part_of : (mode : Mode) → (dialect : Dialect) (most : Option ℕ) (script : List ℕ) (Stops : ℕ → List ℕ → MemberView → Type 0) (old between new : Talk) → new.client ≡ between.client
-    → IsPlayedUpTo mode dialect most script Stops old between → IsPlayedInPart mode dialect most script old new
-part_of mode dialect most script Stops old between new same it =
-    played_up_to mode dialect most script old it.turns it.rest it.between new it.few it.plays (inl (same ∙ client_of (BeginsBad dialect it.rest) it.between between it.begun))
+part_of : (mode : Mode) → (dialect : Dialect) (most : Option ℕ) (script : List ℕ) (Stops : ℕ → List ℕ → Talk → Type 0) (old between new : Talk) → new.client ≡ between.client
+    → ((lines : ℕ) (rest : List ℕ) (now : Talk) → Stops lines rest now → IsBegun (BeginsBad dialect rest) now between) → IsPlayedUpTo mode dialect most script Stops old
+    → IsPlayedInPart mode dialect most script old new
+part_of mode dialect most script Stops old between new same begun it =
+    played_up_to mode dialect most script old it.turns it.rest it.between new it.few it.plays
+    (inl (same ∙ client_of (BeginsBad dialect it.rest) it.between between (begun (length it.turns) it.rest it.between it.stops)))
 
 -- what is known about a client holds for an equal client
 in_part_of : (mode : Mode) → (dialect : Dialect) (most : Option ℕ) (script : List ℕ) (old between new : Talk) → new.client ≡ between.client → IsPlayedInPart mode dialect most script old between → IsPlayedInPart mode dialect most script old new
 in_part_of mode dialect most script old between new same it =
-    played_up_to mode dialect most script old it.turns it.rest it.between new it.few it.plays (elim it.then_is [
+    played_up_to mode dialect most script old it.turns it.rest it.between new it.few it.plays (elim it.stops [
       | inl as_it_was ↦ inl (same ∙ as_it_was)
-      | inr (few, light, after, written, step) ↦ inr (few, light, after, written, subst (λ (c : MemberView). IsStep mode dialect it.rest after it.between (talk c written)) (sym same) step)
+      | inr (may, after, written, step) ↦ inr (may, after, written, subst (λ (c : MemberView). IsStep mode dialect it.rest after it.between (talk c written)) (sym same) step)
     ])
 
 in_part : (mode : Mode) → (dialect : Dialect) (most : Option ℕ) (fault : ScriptFault) (script : List ℕ) (old between new : Talk) → new.client ≡ between.client → IsStoppedBy mode dialect most fault script old between
     → IsPlayedInPart mode dialect most script old new
-in_part mode dialect most BadLine script old between new same it = absurd it
-in_part mode dialect most EndOfScript script old between new same it = part_of mode dialect most script (IsCutIn dialect most old.client) old between new same it
-in_part mode dialect most ScriptTooLong script old between new same it = part_of mode dialect most script (IsTooLong most script old.client) old between new same it
-in_part mode dialect most ReadFault script old between new same it = part_of mode dialect most script (λ lines rest client. Unit {0}) old between new same it
+in_part mode dialect most BadLine script old between new same it = absurd it.stops
+in_part mode dialect most EndOfScript script old between new same it = part_of mode dialect most script (λ lines rest now. StopsBy mode dialect most EndOfScript script old.client between lines rest now) old between new same (λ lines rest now stops. stops.0) it
+in_part mode dialect most ScriptTooLong script old between new same it = part_of mode dialect most script (λ lines rest now. StopsBy mode dialect most ScriptTooLong script old.client between lines rest now) old between new same (λ lines rest now stops. stops.0) it
+in_part mode dialect most ReadFault script old between new same it = part_of mode dialect most script (λ lines rest now. StopsBy mode dialect most ReadFault script old.client between lines rest now) old between new same (λ lines rest now stops. stops) it
 in_part mode dialect most WriteFault script old between new same it = in_part_of mode dialect most script old between new same it
 in_part mode dialect most Stopped script old between new same it =
-    played_up_to mode dialect most script old it.turns it.rest it.between new it.few it.plays (elim it.then_is [
+    played_up_to mode dialect most script old it.turns it.rest it.between new it.few it.plays (elim it.stops.1 [
       | inl as_it_was ↦ inl (same ∙ ap (λ (t : Talk). t.client) as_it_was)
-      | inr (few, light, cuts) ↦
-          let step = cut_obeyed mode (asked_by_line dialect cuts.line) cuts.rest it.between between new same cuts.cut in
-          inr (few, light, cuts.rest, step.0, record { some = it.left; line = cuts.line; rest = cuts.rest; is_line = cuts.is_line; obeyed = step.1 })
+      | inr (may, cuts) ↦
+          let step = cut_obeyed mode (asked_by_line dialect cuts.line) cuts.rest it.between between new same cuts.holds in
+          inr (may, cuts.rest, step.0, record { some = it.stops.0; obeyed = record { line = cuts.line; rest = cuts.rest; is_line = cuts.is_line; holds = step.1 } })
     ])
 
 -- the script was done up to the point that the fault says, and then the fault's line was written

@@ -16,7 +16,7 @@ use Rattle.cc_script.specs.declared.script.NextLine.TheVariants.{End, Line, TooL
 use Rattle.cc_answers.specs.Telling.{Tells, script_fault_text}
 use Rattle.cc_history.specs.History.{MemberView}
 use Rattle.cc_c_semantics.specs.declared.mode.Mode.{Mode}
-use Rattle.cc_session.specs.Playing.{IsBegun, IsLight, IsPlayed, IsPlayedInPart, IsStep, IsWithin, Obeys, Plays, Talk, Turn, Writes, asked_by_line, talk}
+use Rattle.cc_session.specs.Playing.{IsBegun, IsLight, IsPlayed, IsPlayedUpTo, IsStep, IsWithin, NextMayBegin, Obeys, Plays, Talk, Turn, Writes, asked_by_line, talk}
 use Rattle.cc_session.specs.internal.Calls.{DoesAndTells}
 use Rattle.cc_session.specs.internal.Steps.{HasSent, IsDone, IsNotDone, IsSentAs, IsShortOf}
 use Rattle.cc_session.specs.declared.reading.Sent.{Sent}
@@ -206,10 +206,12 @@ too_long_step mode dialect before between after line old new next skipped wrote 
     let long : 128 < length (next.0 ++ skipped.0) = let n = length-append next.0 skipped.0 in omega (arith, n, next.2) in
     record {
       some = line_left before between line TooLong next (λ over. cc over);
-      line = next.0 ++ skipped.0;
-      rest = after;
-      is_line = line_behind before next.0 between skipped.0 after next.1 next.3 skipped.1;
-      obeyed = subst (λ (asked : Option ScriptRequest). Obeys mode asked after after old new) (sym (asks_long dialect (next.0 ++ skipped.0) long)) (refl, wrote);
+      obeyed = record {
+        line = next.0 ++ skipped.0;
+        rest = after;
+        is_line = line_behind before next.0 between skipped.0 after next.1 next.3 skipped.1;
+        holds = subst (λ (asked : Option ScriptRequest). Obeys mode asked after after old new) (sym (asks_long dialect (next.0 ++ skipped.0) long)) (refl, wrote);
+      };
     }
 
 -- a line that is obeyed is a step
@@ -217,10 +219,12 @@ pub obeyed_step : (mode : Mode) → (dialect : Dialect) (before between after li
     → IsStep mode dialect before after old new
 obeyed_step mode dialect before between after line old new short some is obeyed = record {
   some = some;
-  line = line;
-  rest = between;
-  is_line = is;
-  obeyed = subst (λ (asked : Option ScriptRequest). Obeys mode asked between after old new) (sym (asks_short dialect line short)) obeyed;
+  obeyed = record {
+    line = line;
+    rest = between;
+    is_line = is;
+    holds = subst (λ (asked : Option ScriptRequest). Obeys mode asked between after old new) (sym (asks_short dialect line short)) obeyed;
+  };
 }
 
 -- ---- scripts
@@ -240,20 +244,24 @@ plays_on mode dialect MayBegin before old (turn ∷ turns) between now after new
 -- if nothing is left, the whole script is played
 pub played : (mode : Mode) → (dialect : Dialect) (most : Option ℕ) (script : List ℕ) (first : Talk) (turns : List Turn) (rest : List ℕ) (last : Talk) → IsWithin most (length turns)
     → Plays mode dialect (IsLight most first.client) script first turns rest last → rest ≡ [] → IsPlayed mode dialect most script first last
-played mode dialect most script first turns rest last few plays over =
-    record { turns = turns; few = few; plays = subst (λ (l : List ℕ). Plays mode dialect (IsLight most first.client) script first turns l last) over plays }
+played mode dialect most script first turns rest last few plays over = record { turns = turns; few = few; rest = rest; between = last; plays = plays; stops = (over, refl) }
 
 -- the client is as before the next step, or as after that step, whose answer could not be written
 abbrev pub NextIs : (mode : Mode) → Dialect → (most : Option ℕ) (first : MemberView) (lines : ℕ) (rest : List ℕ) (between : Talk) (last : MemberView) → Type 0
 NextIs mode dialect most first lines rest between last =
     (last ≡ between.client)
-    ⊎ (IsWithin most (lines + 1) × IsLight most first between.client × (after : List ℕ) × (written : Option (List ℕ)) × IsStep mode dialect rest after between (talk last written))
+    ⊎ (NextMayBegin most first lines between.client × (after : List ℕ) × (written : Option (List ℕ)) × IsStep mode dialect rest after between (talk last written))
+
+-- A prefix of the script is done, and perhaps the next step.
+abbrev pub IsPlayedInPart : (mode : Mode) → Dialect → (most : Option ℕ) (script : List ℕ) (first last : Talk) → Type 0
+IsPlayedInPart mode dialect most script first last =
+    IsPlayedUpTo mode dialect most script (λ lines rest now. NextIs mode dialect most first.client lines rest now last.client) first
 
 -- if a prefix of the script is done, and perhaps the next step, the script is played in part
 pub played_up_to : (mode : Mode) → (dialect : Dialect) (most : Option ℕ) (script : List ℕ) (first : Talk) (turns : List Turn) (rest : List ℕ) (between last : Talk) → IsWithin most (length turns)
     → Plays mode dialect (IsLight most first.client) script first turns rest between → NextIs mode dialect most first.client (length turns) rest between last.client
     → IsPlayedInPart mode dialect most script first last
-played_up_to mode dialect most script first turns rest between last few plays it = record { turns = turns; few = few; rest = rest; between = between; plays = plays; then_is = it }
+played_up_to mode dialect most script first turns rest between last few plays it = record { turns = turns; few = few; rest = rest; between = between; plays = plays; stops = it }
 
 pub some_left : (x y : Ahead) (next : NextLine) (line : List ℕ) → Between x y (λ b a. IsNext b next line a) → next ≢ End → IfSome x.rest (λ b. b ≢ [])
 some_left x y next line it other = known_by x y (λ b a. IsNext b next line a) (λ b. b ≢ []) it (λ b a is. line_left b a line next is other)

@@ -13,19 +13,19 @@ use Rattle.cc_history.specs.History.{MemberView}
 use Rattle.cc_spool.specs.Spool.{Delivered, Taken, delivered_as, taken_as}
 use Rattle.cc_c_semantics.specs.declared.mode.Mode.{Mode}
 use Rattle.cc_session.specs.Playing.{Grows, IsPlayedBy, Talk, talk}
-use Rattle.cc_session.specs.Spooling.{AreDoneBy, EndsBy, Given, HasDone, HaveDone, IsDoneBy, most_lines}
+use Rattle.cc_session.specs.Spooling.{AreDoneBy, EndsBy, Given, HasDone, HaveDone, IsDoneBy}
 use Rattle.cc_session.specs.internal.Ends.{EndOf}
 
 -- ---- one script
 
 ends_by : (mode : Mode) → {T : Type 0} (played : Result T ScriptFault) (end : Option ℕ) (script : Option (List ℕ)) (old new : Talk) → EndOf played end
-    → IsPlayedBy mode Served most_lines script old new played → EndsBy mode script end old new
+    → IsPlayedBy mode Served (Some 65536) script old new played → EndsBy mode script end old new
 ends_by mode (Ok t) end script old new how is = subst (λ (e : Option ℕ). EndsBy mode script e old new) (sym how) is
 ends_by mode (Err fault) end script old new how is = subst (λ (e : Option ℕ). EndsBy mode script e old new) (sym how) (fault, refl, is)
 
 -- a script that was played is done, with the answer that was written
 pub done_by : (mode : Mode) → {T : Type 0} (played : Result T ScriptFault) (end : Option ℕ) (script begun answer : Option (List ℕ)) (old new : MemberView) → EndOf played end
-    → IsPlayedBy mode Served most_lines script (talk old begun) (talk new answer) played → Grows old new → IsDoneBy mode (taken_as script begun) (delivered_as answer end) old new
+    → IsPlayedBy mode Served (Some 65536) script (talk old begun) (talk new answer) played → Grows old new → IsDoneBy mode (taken_as script begun) (delivered_as answer end) old new
 done_by mode played end script begun answer old new how is grows = (ends_by mode played end script (talk old begun) (talk new answer) how is, grows)
 
 -- ---- scripts in turn

@@ -1,6 +1,6 @@
 -- What a script means for the client that runs it. For each line: the call of the service, how the answer changes the client, and
 -- what is written.
-use Rattle.std.specs.Prelude.{◌≡◌, ◌≢◌, ◌⊎◌, ◌+◌, ◌<◌, ◌≤◌, ℕ, Bool, true, false, List, [], ◌∷◌, ◌++◌, All, drop, length, take, nat_le, if◌then◌else◌, Option, Some, None, IfSome, Result, Ok, Err, IfErr, codes}
+use Rattle.std.specs.Prelude.{◌≡◌, ◌≢◌, ◌⊎◌, ◌+◌, ◌<◌, ◌≤◌, ℕ, Bool, true, false, List, [], ◌∷◌, ◌++◌, All, drop, length, take, nat_le, if◌then◌else◌, Option, Some, None, IfSome, IsSome, Result, Ok, Err, IfErr, codes}
 use Rattle.std.specs.Io.KnownBytes.{Appends}
 use Rattle.cc_script.specs.Line.{ScriptRequest, Add, Replace, Withdraw, Names, Run, Compact, Audit, Image, Source, AuditOne, Update, Call, Space, asked_of}
 use Rattle.cc_script.specs.Reading.{IsLine}
@@ -25,7 +25,7 @@ use Rattle.cc_service.specs.Updating.{UpdateAnswers}
 use Rattle.cc_service.specs.Space.{SpaceAnswers}
 use Rattle.cc_service.specs.declared.fault.ServiceFault.{ServiceFault}
 use Rattle.cc_runs.specs.Words.{input_in}
-use Rattle.cc_session.specs.Telling.{IsCutRun, SaysAudit, SaysChange, SaysNames, SaysRefusal, SaysRun, SaysRunOn, SaysShown, done_text, no_memory_text, room_text}
+use Rattle.cc_session.specs.Telling.{IsCutRun, SaysAudit, SaysChange, SaysNames, SaysRefusal, SaysRunOn, SaysShown, done_text, no_memory_text, room_text}
 
 -- a client, and what the writer of its answers holds, if that is known
 pub record Talk : Type 0 where
@@ -134,7 +134,7 @@ Obeys mode (Some (Add name count)) before after old new = IsSent mode Adds name 
 Obeys mode (Some (Replace name count)) before after old new = IsSent mode Replaces name count before after old new
 Obeys mode (Some (Withdraw name)) before after old new = (after ≡ before) × CallsAndWrites (WithdrawAnswers name) (SaysChange []) old new
 Obeys mode (Some Names) before after old new = (after ≡ before) × CallsAndWrites ListAnswers SaysNames old new
-Obeys mode (Some (Run name steps)) before after old new = (after ≡ before) × CallsAndWrites (GetAnswers name) (SaysRun steps) old new
+Obeys mode (Some (Run name steps)) before after old new = (after ≡ before) × CallsAndWrites (GetAnswers name) (SaysRunOn [] steps) old new
 Obeys mode (Some Compact) before after old new = (after ≡ before) × Compacts old new
 Obeys mode (Some Audit) before after old new = (after ≡ before) × Audits mode old new
 Obeys mode (Some (Image name)) before after old new = (after ≡ before) × CallsAndWrites (GetAnswers name) (SaysShown part.Image) old new
@@ -149,13 +149,17 @@ Obeys mode None before after old new = (after ≡ before) × Writes (script_faul
 abbrev pub asked_by_line : Dialect → List ℕ → Option ScriptRequest
 asked_by_line dialect line = if nat_le (length line) 128 then asked_of dialect line else None
 
--- One line of a script of this dialect is done in the mode, with its source, if it has one. There is a line only if a byte is left.
-pub record IsStep (mode : Mode) (dialect : Dialect) (before after : List ℕ) (old new : Talk) : Type 0 where
-  pub some : before ≢ []
+-- the script's next line; `Holds` is true of what it asks for and of what is left after it
+pub record NextLineAsks (dialect : Dialect) (Holds : Option ScriptRequest → (rest : List ℕ) → Type 0) (before : List ℕ) : Type 0 where
   pub line : List ℕ
   pub rest : List ℕ
   pub is_line : IsLine before line rest
-  pub obeyed : Obeys mode (asked_by_line dialect line) rest after old new
+  pub holds : Holds (asked_by_line dialect line) rest
+
+-- One line of a script of this dialect is done in the mode, with its source, if it has one. There is a line only if a byte is left.
+pub record IsStep (mode : Mode) (dialect : Dialect) (before after : List ℕ) (old new : Talk) : Type 0 where
+  pub some : before ≢ []
+  pub obeyed : NextLineAsks dialect (λ asked rest. Obeys mode asked rest after old new) before
 
 -- what is left of the script after a step, and the client and its answers at that point
 pub record Turn : Type 0 where
@@ -184,24 +188,18 @@ abbrev pub IsLight : (most : Option ℕ) (first now : MemberView) → Type 0
 IsLight None first now = Unit {0}
 IsLight (Some most) first now = held_since first now ≤ 268435456
 
--- the whole script is done
-pub record IsPlayed (mode : Mode) (dialect : Dialect) (most : Option ℕ) (script : List ℕ) (first last : Talk) : Type 0 where
-  pub turns : List Turn
-  pub few : IsWithin most (length turns)
-  pub plays : Plays mode dialect (IsLight most first.client) script first turns [] last
-
--- A prefix of the script is done. The client at the end is as these steps left it, or as it would be after one more step, whose answer
--- could not be written (for an audit: after an audit that ran out of memory at that point). What the writer holds is not known.
-pub record IsPlayedInPart (mode : Mode) (dialect : Dialect) (most : Option ℕ) (script : List ℕ) (first last : Talk) : Type 0 where
+-- A prefix of the script is done. `Stops` holds of the number of lines done, of what is left, and of the client and its answers then.
+pub record IsPlayedUpTo (mode : Mode) (dialect : Dialect) (most : Option ℕ) (script : List ℕ) (Stops : (lines : ℕ) (rest : List ℕ) (now : Talk) → Type 0) (first : Talk) : Type 0 where
   pub turns : List Turn
   pub few : IsWithin most (length turns)
   pub rest : List ℕ
   pub between : Talk
   pub plays : Plays mode dialect (IsLight most first.client) script first turns rest between
-  pub then_is :
-      (last.client ≡ between.client)
-      ⊎ (IsWithin most (length turns + 1) × IsLight most first.client between.client × (after : List ℕ) × (written : Option (List ℕ))
-      × IsStep mode dialect rest after between (talk last.client written))
+  pub stops : Stops (length turns) rest between
+
+-- the whole script is done
+abbrev pub IsPlayed : Mode → Dialect → (most : Option ℕ) (script : List ℕ) (first last : Talk) → Type 0
+IsPlayed mode dialect most script first last = IsPlayedUpTo mode dialect most script (λ lines rest now. (rest ≡ []) × (now ≡ last)) first
 
 -- ---- scripts that a fault ends
 
@@ -222,13 +220,6 @@ IsCutShort (Some (Update name expected count)) rest = IsShortOfTwo expected coun
 IsCutShort (Some (Call name steps count)) rest = length rest < count
 IsCutShort asked rest = ⊥
 
--- the script ends within a source of its next line
-pub record EndsInSource (dialect : Dialect) (before : List ℕ) : Type 0 where
-  pub line : List ℕ
-  pub rest : List ℕ
-  pub is_line : IsLine before line rest
-  pub short : IsCutShort (asked_by_line dialect line) rest
-
 -- this many bytes are followed by a byte other than a newline
 abbrev pub IsUnended : (count : ℕ) (rest : List ℕ) → Type 0
 IsUnended count rest = (source : List ℕ) × (byte : ℕ) × (after : List ℕ) × (rest ≡ source ++ byte ∷ after) × (length source ≡ count) × (byte ≢ 10)
@@ -245,20 +236,13 @@ HasUnended (Some (Update name expected count)) rest = IsUnendedOfTwo expected co
 HasUnended (Some (Call name steps count)) rest = IsUnended count rest
 HasUnended asked rest = ⊥
 
--- a source of the script's next line is followed by a byte other than a newline
-pub record EndsNoSource (dialect : Dialect) (before : List ℕ) : Type 0 where
-  pub line : List ℕ
-  pub rest : List ℕ
-  pub is_line : IsLine before line rest
-  pub unended : HasUnended (asked_by_line dialect line) rest
-
 -- the next line has more than 128 bytes
 abbrev pub BeginsLong : (before : List ℕ) → Type 0
 BeginsLong before = (prefix : List ℕ) × (after : List ℕ) × (before ≡ prefix ++ after) × (length prefix ≡ 129) × All (λ byte. byte ≢ 10) prefix
 
 -- the next line is refused with 50 before it is read to its end
 abbrev pub BeginsBad : Dialect → (before : List ℕ) → Type 0
-BeginsBad dialect before = BeginsLong before ⊎ EndsNoSource dialect before
+BeginsBad dialect before = BeginsLong before ⊎ NextLineAsks dialect HasUnended before
 
 -- nothing was called; and nothing was written, or 50 for a line that is refused before it is read to its end
 abbrev pub IsBegun : (IsBad : Type 0) → (old new : Talk) → Type 0
@@ -270,20 +254,9 @@ abbrev pub IsTooLong : (most : Option ℕ) (script : List ℕ) (first : MemberVi
 IsTooLong None script first lines rest now = 16777216 < length script
 IsTooLong (Some most) script first lines rest now = (16777216 < length script) ⊎ ((rest ≢ []) × ((lines ≡ most) ⊎ (268435456 < held_since first now)))
 
--- A prefix of the script is done and nothing of what comes after it, except that 50 may be written for a line that was not read
--- to its end. `Stops` holds of the number of lines done, what is left, and the client at that point.
-pub record IsPlayedUpTo (mode : Mode) (dialect : Dialect) (most : Option ℕ) (script : List ℕ) (Stops : (lines : ℕ) (rest : List ℕ) (now : MemberView) → Type 0) (first last : Talk) : Type 0 where
-  pub turns : List Turn
-  pub few : IsWithin most (length turns)
-  pub rest : List ℕ
-  pub between : Talk
-  pub plays : Plays mode dialect (IsLight most first.client) script first turns rest between
-  pub begun : IsBegun (BeginsBad dialect rest) between last
-  pub stops : Stops (length turns) rest between.client
-
--- the next line may be begun, and the script ends within a source of that line
-abbrev pub IsCutIn : Dialect → (most : Option ℕ) (first : MemberView) (lines : ℕ) (rest : List ℕ) (now : MemberView) → Type 0
-IsCutIn dialect most first lines rest now = IsWithin most (lines + 1) × IsLight most first now × EndsInSource dialect rest
+-- one more line may be begun
+abbrev pub NextMayBegin : (most : Option ℕ) (first : MemberView) (lines : ℕ) (now : MemberView) → Type 0
+NextMayBegin most first lines now = IsWithin most (lines + 1) × IsLight most first now
 
 -- the unit of a `run` was fetched, its image is not at its end after some of the steps, and nothing was written for it
 abbrev pub CutsRun : (name : List ℕ) (steps : ℕ) (old new : Talk) → Type 0
@@ -294,43 +267,34 @@ abbrev pub CutsLine : Option ScriptRequest → (old new : Talk) → Type 0
 CutsLine (Some (Run name steps)) old new = CutsRun name steps old new
 CutsLine asked old new = ⊥
 
--- the script's next line is a `run` that was cut off
-pub record CutsNext (dialect : Dialect) (before : List ℕ) (old new : Talk) : Type 0 where
-  pub line : List ℕ
-  pub rest : List ℕ
-  pub is_line : IsLine before line rest
-  pub cut : CutsLine (asked_by_line dialect line) old new
-
--- A prefix of the script is done and answered, and more is left. Of that nothing was done, or the next line is a `run` that was cut off.
-pub record IsPlayedTill (mode : Mode) (dialect : Dialect) (most : Option ℕ) (script : List ℕ) (first last : Talk) : Type 0 where
-  pub turns : List Turn
-  pub few : IsWithin most (length turns)
-  pub rest : List ℕ
-  pub between : Talk
-  pub plays : Plays mode dialect (IsLight most first.client) script first turns rest between
-  pub left : rest ≢ []
-  pub then_is : (last ≡ between) ⊎ (IsWithin most (length turns + 1) × IsLight most first.client between.client × CutsNext dialect rest between last)
-
--- there is a bound on the lines
-abbrev pub IsBounded : (most : Option ℕ) → Type 0
-IsBounded None = ⊥
-IsBounded (Some most) = Unit {0}
-
 -- the faults that end a script: 51 to 54; also 61, if its lines are bounded
 abbrev pub IsEnding : (most : Option ℕ) → ScriptFault → Type 0
 IsEnding most BadLine = ⊥
-IsEnding most Stopped = IsBounded most
+IsEnding most Stopped = IsSome most
 IsEnding most fault = Unit {0}
 
--- How far a script was done if this fault ended it. The clause does not say whether 53, 54 or 61 is justified: only the reader
--- knows whether it failed, only the writer whether it did, and only the spool whether the script was to end.
+-- What holds at the point at which a script stops, if this fault ends it. At 51 to 53 nothing of the next line is done, except that 50
+-- may be written for a line that is not read to its end. At 54 the client may be as after one more step, whose answer could not be
+-- written (for an audit: after an audit that ran out of memory at that point); what the writer holds is not known. At 61 more is left,
+-- and the next line may be a `run` that was cut off. The clause does not say whether 53, 54 or 61 is justified: only the reader knows
+-- whether it failed, only the writer whether it did, and only the spool whether the script was to end.
+abbrev pub StopsBy : Mode → Dialect → (most : Option ℕ) → ScriptFault → (script : List ℕ) (first : MemberView) (last : Talk) (lines : ℕ) (rest : List ℕ) (now : Talk) → Type 0
+StopsBy mode dialect most BadLine script first last lines rest now = ⊥
+StopsBy mode dialect most EndOfScript script first last lines rest now =
+    IsBegun (BeginsBad dialect rest) now last × (NextMayBegin most first lines now.client × NextLineAsks dialect IsCutShort rest)
+StopsBy mode dialect most ScriptTooLong script first last lines rest now =
+    IsBegun (BeginsBad dialect rest) now last × IsTooLong most script first lines rest now.client
+StopsBy mode dialect most ReadFault script first last lines rest now = IsBegun (BeginsBad dialect rest) now last
+StopsBy mode dialect most WriteFault script first last lines rest now =
+    (last.client ≡ now.client)
+    ⊎ (NextMayBegin most first lines now.client × (after : List ℕ) × (written : Option (List ℕ)) × IsStep mode dialect rest after now (talk last.client written))
+StopsBy mode dialect most Stopped script first last lines rest now =
+    (rest ≢ []) × ((last ≡ now) ⊎ (NextMayBegin most first lines now.client × NextLineAsks dialect (λ asked after. CutsLine asked now last) rest))
+
+-- how far a script was done if this fault ended it
 abbrev pub IsStoppedBy : Mode → Dialect → (most : Option ℕ) → ScriptFault → (script : List ℕ) (first last : Talk) → Type 0
-IsStoppedBy mode dialect most BadLine script first last = ⊥
-IsStoppedBy mode dialect most EndOfScript script first last = IsPlayedUpTo mode dialect most script (IsCutIn dialect most first.client) first last
-IsStoppedBy mode dialect most ScriptTooLong script first last = IsPlayedUpTo mode dialect most script (IsTooLong most script first.client) first last
-IsStoppedBy mode dialect most ReadFault script first last = IsPlayedUpTo mode dialect most script (λ lines rest client. Unit {0}) first last
-IsStoppedBy mode dialect most WriteFault script first last = IsPlayedInPart mode dialect most script first last
-IsStoppedBy mode dialect most Stopped script first last = IsPlayedTill mode dialect most script first last
+IsStoppedBy mode dialect most fault script first last =
+    IsPlayedUpTo mode dialect most script (λ lines rest now. StopsBy mode dialect most fault script first.client last lines rest now) first
 
 -- the script was done as far as the fault says, and then the fault's line was written; 54 has no line
 abbrev pub IsEndedBy : Mode → Dialect → (most : Option ℕ) → ScriptFault → (script : List ℕ) (first last : Talk) → Type 0

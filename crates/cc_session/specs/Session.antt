@@ -73,12 +73,6 @@ IsEnded D failures bytes from left clients played end after =
     (((end ≡ played) ⊎ ((played ≡ Finished) × (end ≡ Fault 40))) × IsLeft D failures bytes from left IsClosed clients after)
     ⊎ ((end ≡ Fault 39) × IsLeft D failures bytes from left IsNotWhole clients after)
 
--- the service of some clients was ended or given up; `Worked` says what they did, depending on how their work ended
-abbrev pub HasEnded : {Disk : Type 0} (D : Ghosts Disk) (failures : ℕ) (bytes : List ℕ) (from : ℕ) (left : List ℕ → Type 0)
-    (Worked : (clients : List MemberView) (played : SessionEnd) → Type 0) → SessionEnd → (after : Disk) → Type 0
-HasEnded D failures bytes from left Worked end after =
-    (clients : List MemberView) × (played : SessionEnd) × Worked clients played × IsEnded D failures bytes from left clients played end after
-
 -- How a service ends if it began with this disk, where `left` is what a crash could have left from the moment `from` until then.
 -- Either it was not opened, an honest disk was at most read, and `Untouched` holds; or it was ended or given up, and the work of
 -- its clients is what `Worked` says.
@@ -86,17 +80,12 @@ abbrev pub EndsSince : {Disk : Type 0} (D : Ghosts Disk) (from : ℕ) (left : Li
     (Worked : (clients : List MemberView) (played : SessionEnd) → Type 0) (before after : Disk) → SessionEnd → Type 0
 EndsSince D from left Untouched Worked before after end =
     (IsUnopened D.honest (D.seen before) (D.failures before) (D.failures after) end × (IsTrue D.honest → OnlyReads D.seen D.may_leave D.moment D.left_since before after) × Untouched)
-    ⊎ HasEnded D (D.failures before) (D.seen before) from left Worked end after
-
--- How a service that began with this disk ends: `EndsSince` since the beginning, with what a crash may have left then.
-abbrev pub ServiceEnds : {Disk : Type 0} (D : Ghosts Disk) (Untouched : Type 0) (Worked : (clients : List MemberView) (played : SessionEnd) → Type 0)
-    (before after : Disk) → SessionEnd → Type 0
-ServiceEnds D Untouched Worked before after end =
-    EndsSince D (D.moment before) (D.may_leave before) Untouched Worked before after end
+    ⊎ ((clients : List MemberView) × (played : SessionEnd) × Worked clients played
+    × IsEnded D (D.failures before) (D.seen before) from left clients played end after)
 
 -- How a session ends if it began with this disk and a writer that held `written_before`: like a service whose only client runs
 -- the script. The disk is always handed back.
 abbrev pub SessionEnds : Mode → {Disk : Type 0} (D : Ghosts Disk) (script written_before written_after : Option (List ℕ)) (before : Disk) → Option Disk → SessionEnd → Type 0
 SessionEnds mode D script written_before written_after before None end = ⊥
 SessionEnds mode D script written_before written_after before (Some after) end =
-    ServiceEnds D (Unit {0}) (HaveCalled mode script written_before written_after end) before after end
+    EndsSince D (D.moment before) (D.may_leave before) (Unit {0}) (HaveCalled mode script written_before written_after end) before after end

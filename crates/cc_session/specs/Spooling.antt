@@ -8,21 +8,18 @@ use Rattle.cc_script.specs.declared.fault.ScriptFault.{ScriptFault}
 use Rattle.cc_spool.specs.Spool.{Delivered, Taken}
 use Rattle.cc_c_semantics.specs.declared.mode.Mode.{Mode}
 use Rattle.cc_session.specs.Playing.{Grows, IsPlayed, IsStopped, Talk, talk}
-use Rattle.cc_session.specs.Session.{ServiceEnds}
+use Rattle.cc_session.specs.Session.{EndsSince}
 use Rattle.cc_session.specs.declared.end.SessionEnd.{SessionEnd}
 use Rattle.cc_session.specs.declared.end.SessionEnd.TheVariants.{Finished, Fault}
 
 -- ---- the scripts of one client
 
--- at most this many lines of a script from a spool are done
-abbrev pub most_lines : Option ℕ
-most_lines = Some 65536
-
--- How a script of a spool, in the served dialect and the mode, ended, depending on `end`: either the whole script is done; or a fault that
--- ends scripts ended it, and it is done up to the point that the fault says. This concerns scripts whose bytes are known.
+-- How a script of a spool, in the served dialect and the mode, with at most 65,536 lines, ended, depending on `end`: either the whole
+-- script is done; or a fault that ends scripts ended it, and it is done up to the point that the fault says. This concerns scripts
+-- whose bytes are known.
 abbrev pub EndsBy : Mode → (script : Option (List ℕ)) (end : Option ℕ) (old new : Talk) → Type 0
-EndsBy mode script None old new = IfSome script (λ bytes. IsPlayed mode Served most_lines bytes old new)
-EndsBy mode script (Some number) old new = (fault : ScriptFault) × (number ≡ faults.fault_number fault) × IsStopped mode Served most_lines script old new fault
+EndsBy mode script None old new = IfSome script (λ bytes. IsPlayed mode Served (Some 65536) bytes old new)
+EndsBy mode script (Some number) old new = (fault : ScriptFault) × (number ≡ faults.fault_number fault) × IsStopped mode Served (Some 65536) script old new fault
 
 -- The answer that was handed over belongs to the script that was taken. After what its writer held when the script was taken,
 -- the answer has the lines of this script's turns, in order, and no other byte, if both are known. Whatever the script, only
@@ -69,8 +66,8 @@ HaveServed mode before after clients Finished = HaveDone mode before after clien
 HaveServed mode before after clients (Fault number) =
     (number ≡ 30) × (after ≡ before) × ((i : ℕ) (client : MemberView) → slice_get clients i ≡ Some client → client.receipts ≡ [])
 
--- How serving ends if it began with this disk and these spools: like a service whose clients run the scripts that the spools
--- give. If the service was not opened, no script was taken and no answer handed over.
+-- How serving ends if it began with this disk and these spools: like a service that began then, whose clients run the scripts
+-- that the spools give. If the service was not opened, no script was taken and no answer handed over.
 abbrev pub ServingEnds : Mode → {Disk : Type 0} (D : Ghosts Disk) (spools_before spools_after : List Given) (before after : Disk) → SessionEnd → Type 0
 ServingEnds mode D spools_before spools_after before after end =
-    ServiceEnds D (spools_after ≡ spools_before) (HaveServed mode spools_before spools_after) before after end
+    EndsSince D (D.moment before) (D.may_leave before) (spools_after ≡ spools_before) (HaveServed mode spools_before spools_after) before after end

@@ -81,14 +81,10 @@ pub record IsCutRun (steps : ℕ) (reply : Reply) : Type 0 where
   pub found : reply ≡ Unit unit
   pub cut : IsCutOff unit.image steps
 
--- for a run on input words: what the image of the unit that was found does; or that memory ran out
+-- for a run on input words, none for `run`: what the image of the unit that was found does; or that memory ran out
 abbrev pub SaysRunOn : (words : List ℕ) (steps : ℕ) → Result Receipt ServiceFault → (text : List ℕ) → Type 0
 SaysRunOn words steps (Ok receipt) text = IsRunText words steps receipt.entry.reply text ⊎ (text ≡ no_memory_text)
 SaysRunOn words steps (Err fault) text = text ≡ refusal_text [] fault
-
--- for a run without input
-abbrev pub SaysRun : (steps : ℕ) → Result Receipt ServiceFault → (text : List ℕ) → Type 0
-SaysRun steps = SaysRunOn [] steps
 
 -- for a part: the image or the source of the unit that was found; or that memory ran out
 abbrev pub SaysShown : Part → Result Receipt ServiceFault → (text : List ℕ) → Type 0

@@ -1,7 +1,6 @@
 // How a client of a service runs a script, or the scripts of a spool one after another.
 
 ghost use Rattle.std.specs.Prelude.{◌≡◌, ◌++◌, ◌∷◌, []};
-ghost use Rattle.cc_c_semantics.specs.declared.mode.Mode.TheVariants.{Plain};
 ghost use Rattle.cc_spool.specs.Spool.{Delivered, taken_as};
 ghost use Rattle.cc_session.specs.Playing.{Grows, IsPlayedBy, talk};
 ghost use Rattle.cc_session.specs.Spooling.{HasDone, IsDoneBy, given_by};
@@ -34,7 +33,7 @@ const MOST_LINES: usize = 65_536;
 /// many are done, and 52 ends a script that has more (if the bound is 0, every script that has a byte). A line and the source
 /// after it count as one line, whatever is answered. 52 also ends such a script after the line that brings the client's receipts
 /// for it above 256 MiB (`held_since` of `Client`), if the script goes on after that.
-pub fn play_in<N, H, R: Read, W: Write, E: Write, D>(
+pub fn play<N, H, R: Read, W: Write, E: Write, D>(
     rt: &H,
     alloc: Global,
     mode: Mode,
@@ -71,39 +70,6 @@ where
     tell_halt(halted, writer, explanations)
 }
 
-/// `play_in` in the plain mode.
-pub fn play<N, H, R: Read, W: Write, E: Write, D>(
-    rt: &H,
-    alloc: Global,
-    service: &Service<N, D>,
-    client: &mut Client<N>,
-    reader: &mut R,
-    writer: &mut W,
-    explanations: &mut E,
-    dialect: Dialect,
-    most: Option<usize>,
-) -> Result<(), ScriptFault>
-where
-    N: Named + Send + Sync + 'static,
-    H: Wait,
-    D: Disk,
-    ensures played { IsPlayedBy Plain dialect most (R.remaining reader.old) (talk client.old.member (W.contents writer.old)) (talk client.new.member (W.contents writer.new)) result }
-    ensures grows { Grows client.old.member client.new.member }
-{
-    play_in(
-        rt,
-        alloc,
-        Mode::Plain,
-        service,
-        client,
-        reader,
-        writer,
-        explanations,
-        dialect,
-        most,
-    )
-}
-
 // The number of the fault that ended a script.
 fn end_of(played: Result<(), ScriptFault>) -> Option<u32>
     ensures { EndOf played result }
@@ -132,7 +98,7 @@ fn is_closing<S: Spool>(spool: &mut S, meter: &Meter) -> bool
 /// A fault that ends a script, 51 to 54 or 61, ends only that script: its answer is handed over with the fault's number, and the
 /// next is taken. The line of the fault is the answer's last, but 54 has no line: the spool decides what becomes of an answer
 /// that can't be written.
-pub fn attend_in<N, H, S, D>(
+pub fn attend<N, H, S, D>(
     rt: &H,
     alloc: Global,
     mode: Mode,
@@ -184,23 +150,4 @@ where
         let entries = client.receipts().len().saturating_sub(seen);
         meter.end_script(entries as u64, client.held_since(seen));
     }
-}
-
-/// `attend_in` in the plain mode.
-pub fn attend<N, H, S, D>(
-    rt: &H,
-    alloc: Global,
-    service: &Service<N, D>,
-    client: &mut Client<N>,
-    spool: &mut S,
-    meter: &Meter,
-)
-where
-    N: Named + Send + Sync + 'static,
-    H: Wait,
-    S: Spool,
-    D: Disk,
-    ensures { HasDone Plain (given_by S.taken S.ended spool.old) client.old.member (given_by S.taken S.ended spool.new) client.new.member }
-{
-    attend_in(rt, alloc, Mode::Plain, service, client, spool, meter);
 }

@@ -54,8 +54,8 @@ fn is_enough(bounds: Bounds, counts: Counts) -> bool
             || bounds.scripts <= counts.scripts)
 }
 
-/// What the clients of a generation have done so far. All of them share it. `attend` asks the meter and reports to it; a caller
-/// of `play` may do so too.
+/// What the clients of a generation have done so far. All of them share it: each asks it before it takes a script, and reports
+/// what it did.
 #[derive(Drop)]
 pub struct Meter {
     bounds: Bounds,

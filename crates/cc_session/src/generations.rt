@@ -1,7 +1,6 @@
 // Serving without end: each generation is one service, and the next begins with the disk and the spools that it left.
 
 ghost use Rattle.std.specs.Prelude.{◌≡◌, ◌≢◌, ◌≤◌, ℕ, All, zero, suc, true, false, map};
-ghost use Rattle.cc_c_semantics.specs.declared.mode.Mode.TheVariants.{Plain};
 ghost use Rattle.cc_session.specs.Generations.{GoesOn, ServesOn};
 ghost use Rattle.cc_session.specs.declared.end.SessionEnd.TheVariants.{Finished};
 ghost use Rattle.cc_session.specs.Spooling.{ServingEnds, given_by};
@@ -124,7 +123,7 @@ fn goes_on<H: Clock, E: Write, D: Drop, S: Spool + Drop>(
     !rest(rt, *pause, left.spools.as_mut_slice())
 }
 
-/// Serves as `serve_in` does, one generation after the other, until each spool is over or a service ends with a fault. A
+/// Serves as `serve` does, one generation after the other, until each spool is over or a service ends with a fault. A
 /// generation begins with the disk and the spools that the one before left; the numbers of its receipts begin at 1. Between two
 /// generations no script is taken, for as long as the service's end, the opening of the library and `steward` take.
 ///
@@ -132,8 +131,8 @@ fn goes_on<H: Clock, E: Write, D: Drop, S: Spool + Drop>(
 /// long each time, up to a minute. The first of several faults in a row is explained to `explanations`. Serving ends with such
 /// a fault only if each spool is over by then. Any fault of the first generation ends it.
 ///
-/// What goes to `writer` and `explanations`, and what is handed back, is what `serve_in` says, for the last generation.
-pub fn serve_on_in<H, S, W, E, D, T>(
+/// What goes to `writer` and `explanations`, and what is handed back, is what `serve` says, for the last generation.
+pub fn serve_on<H, S, W, E, D, T>(
     rt: &H,
     alloc: Global,
     mode: Mode,
@@ -198,46 +197,4 @@ where
         );
     }
     unreachable!()
-}
-
-/// `serve_on_in` in the plain mode.
-pub fn serve_on<H, S, W, E, D, T>(
-    rt: &H,
-    alloc: Global,
-    spools: Vec<S>,
-    writer: &mut W,
-    explanations: &mut E,
-    disk: D,
-    workers: usize,
-    bounds: Bounds,
-    steward: &mut T,
-) -> Served<D, S>
-where
-    H: Threads + Wait + Clock + Copy + Send + Sync + 'static,
-    S: Spool + Send + Drop,
-    W: Write,
-    E: Write,
-    D: Disk + Send + Drop,
-    T: Steward,
-    requires some { 1 ≤ workers }
-    requires few { workers ≤ 8 }
-    ensures generations { (earlier : ℕ) × ServesOn (ServingEnds Plain D.Disk) earlier
-        (map (given_by S.taken S.ended) spools.items) (map (given_by S.taken S.ended) result.spools.items) disk result.disk result.end }
-    // If no fault ended serving, each spool has said that it is over.
-    ensures over { result.end ≡ Finished → All S.over result.spools.items }
-    // If no fault ended serving, nothing is written.
-    ensures still { result.end ≡ Finished → W.contents writer.new ≡ W.contents writer.old }
-{
-    serve_on_in(
-        rt,
-        alloc,
-        Mode::Plain,
-        spools,
-        writer,
-        explanations,
-        disk,
-        workers,
-        bounds,
-        steward,
-    )
 }

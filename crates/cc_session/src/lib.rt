@@ -7,8 +7,8 @@
 //! go, `patience` whether others wait, `calls` does its commands, `hints` hands sources in before their turn, `auditing` audits a
 //! unit, `showing` has the text of its image or its source, `telling` writes what the service answered, `end` says how a session
 //! ended. `cc_script` says which commands a script has, `cc_spool` how scripts arrive, `cc_answers` how an answer is written and
-//! a fault explained. It exports `session`, `session_and_explain`, `serve`, `serve_on`, `attend` and `play`, all but `session`
-//! also in a mode; `Served` and `SessionEnd`; `Bounds`, `BOUNDS`, `Meter`; `Steward`, `NoSteward`, `Generation`, `GenerationEnd`;
+//! a fault explained. It exports `session`, which is plain, and in a mode `session_and_explain`, `serve`, `serve_on`, `attend`
+//! and `play`; `Served` and `SessionEnd`; `Bounds`, `BOUNDS`, `Meter`; `Steward`, `NoSteward`, `Generation`, `GenerationEnd`;
 //! `Gate` and `NoGate`.
 #![tactic(auto)]
 
@@ -28,11 +28,11 @@ mod showing;
 mod steward;
 mod telling;
 
-pub use attending::{attend, attend_in, play, play_in};
+pub use attending::{attend, play};
 pub use bounds::{BOUNDS, Bounds, Meter};
 pub use cc_service::{Gate, NoGate};
 pub use end::SessionEnd;
-pub use generations::{serve_on, serve_on_in};
-pub use running::{session, session_and_explain, session_and_explain_in};
-pub use serving::{Served, serve, serve_in};
+pub use generations::serve_on;
+pub use running::{session, session_and_explain};
+pub use serving::{Served, serve};
 pub use steward::{Generation, GenerationEnd, NoSteward, Steward};

@@ -253,10 +253,10 @@ where
     }
 }
 
-/// Does the commands of a script in a mode as `session` does, and explains faults to a person in `explanations`: the place in the
+/// Does the commands of a script as `session` does, in a mode, and explains faults to a person in `explanations`: the place in the
 /// source that was sent, as `check` reports it, or a few words. If such a write fails, the session goes on. The workers pass
 /// `gate`, which can show how far a long `add` has got.
-pub fn session_and_explain_in<H, R: Read, W: Write, E: Write, D: Disk + Drop, G>(
+pub fn session_and_explain<H, R: Read, W: Write, E: Write, D: Disk + Drop, G>(
     rt: &H,
     alloc: Global,
     mode: Mode,
@@ -298,37 +298,6 @@ where
     }
 }
 
-/// `session_and_explain_in` in the plain mode.
-pub fn session_and_explain<H, R: Read, W: Write, E: Write, D: Disk + Drop, G>(
-    rt: &H,
-    alloc: Global,
-    reader: &mut R,
-    writer: &mut W,
-    explanations: &mut E,
-    disk: D,
-    workers: usize,
-    gate: G,
-) -> (Option<D>, SessionEnd)
-where
-    H: Threads + Wait + Copy + Send + 'static,
-    G: Gate + Drop + Send + Sync + 'static,
-    requires some { 1 ≤ workers }
-    requires few { workers ≤ 8 }
-    ensures answers { SessionEnds Plain D.Disk (R.remaining reader.old) (W.contents writer.old) (W.contents writer.new) disk result.0 result.1 }
-{
-    session_and_explain_in(
-        rt,
-        alloc,
-        Mode::Plain,
-        reader,
-        writer,
-        explanations,
-        disk,
-        workers,
-        gate,
-    )
-}
-
 /// Opens the library on a disk as a service with this many workers, 1 to 8, does the commands of a script with one client, and
 /// ends the service.
 ///
@@ -358,6 +327,7 @@ where
     session_and_explain(
         rt,
         alloc,
+        Mode::Plain,
         reader,
         writer,
         &mut io::sink(),

@@ -6,7 +6,6 @@
 
 ghost use Rattle.std.specs.Prelude.{◌≡◌, ◌≤◌, ℕ, All, List, [], IsTrue, IfOk, IfErr, OnErr, OnOk, map, vec_len};
 ghost use Rattle.std.specs.Vec.{vec_capacity};
-ghost use Rattle.cc_c_semantics.specs.declared.mode.Mode.TheVariants.{Plain};
 ghost use Rattle.cc_library.specs.Apply.{Units};
 ghost use Rattle.cc_library.specs.Recovered.{Recovers};
 ghost use Rattle.cc_service.specs.Client.{members};
@@ -19,7 +18,7 @@ ghost use Rattle.cc_session.specs.Session.{EndsSince, IsEnded};
 ghost use Rattle.cc_session.specs.declared.end.SessionEnd.TheVariants.{Fault, Finished};
 ghost use Rattle.cc_session.specs.Spooling.{HasDone, HaveServed, ServingEnds, given_by};
 
-use crate::attending::attend_in;
+use crate::attending::attend;
 use crate::bounds::{Bounds, Meter};
 use crate::end::SessionEnd;
 use crate::running::{Begun, begin, finish};
@@ -380,7 +379,7 @@ where
                         &|_: usize, post: &mut Post<N, S>|
                             ensures { HasDone mode (given_by S.taken S.ended post.entry.now.spool) post.entry.now.client.member (given_by S.taken S.ended post.exit.now.spool) post.exit.now.client.member }
                         {
-                            attend_in(
+                            attend(
                                 rt,
                                 alloc,
                                 mode,
@@ -447,16 +446,22 @@ where
 }
 
 /// Opens the library on a disk as a service with this many workers, 1 to 8, and a client for each spool, at most 1,024. Each
-/// client runs the scripts that its spool gives in a mode, as `attend_in` says, until the spool is over or the clients together
+/// client runs the scripts that its spool gives in a mode, one after another, until the spool is over or the clients together
 /// have done as much as `bounds` says; then the service is ended. Each client does so in a thread of its own if one can be made;
 /// clients for which no thread can be made begin when others have ended. The workers pass `gate`, which can show how far a long
 /// `add` has got. `steward` is called when scripts are taken and, if they were, with how the service ended.
+///
+/// At most 65,536 lines of each script are done, and none after those whose receipts hold more than 256 MiB; if a script has more,
+/// its answer ends with the line for 52. A script that has run for long and is not at its end ends with 61 after its current line,
+/// or within a `run`, if others wait (`is_long`, `is_awaited`) or the bounds are reached. A fault that ends a script, 51 to 54 or
+/// 61, ends only that script: its answer is handed over with the fault's number, and the next is taken. The line of the fault is
+/// the answer's last, but 54 has no line: the spool decides what becomes of an answer that can't be written.
 ///
 /// The line for a fault of the opening (35, 37, 38, 40, 41; 30 if there are too many spools) or of the end (39, 40) goes to
 /// `writer`, and its explanation for a person to `explanations`. `end` is the first of these faults, or 39, and its line is
 /// written. A fault that ends a script is reported only in the script's answer. The disk and the spools are handed back after any
 /// fault.
-pub fn serve_in<H, S, W, E, D, G, T>(
+pub fn serve<H, S, W, E, D, G, T>(
     rt: &H,
     alloc: Global,
     mode: Mode,
@@ -498,47 +503,4 @@ where
     );
     tell_end(alloc, left.end, writer, explanations);
     left
-}
-
-/// `serve_in` in the plain mode.
-pub fn serve<H, S, W, E, D, G, T>(
-    rt: &H,
-    alloc: Global,
-    spools: Vec<S>,
-    writer: &mut W,
-    explanations: &mut E,
-    disk: D,
-    workers: usize,
-    gate: G,
-    bounds: Bounds,
-    steward: &mut T,
-) -> Served<D, S>
-where
-    H: Threads + Wait + Copy + Send + Sync + 'static,
-    S: Spool + Send + Drop,
-    W: Write,
-    E: Write,
-    D: Disk + Send + Drop,
-    G: Gate + Drop + Send + Sync + 'static,
-    T: Steward,
-    requires some { 1 ≤ workers }
-    requires few { workers ≤ 8 }
-    ensures answers { ServingEnds Plain D.Disk
-        (map (given_by S.taken S.ended) spools.items) (map (given_by S.taken S.ended) result.spools.items) disk result.disk result.end }
-    // If no fault ended serving, nothing is written.
-    ensures still { result.end ≡ Finished → W.contents writer.new ≡ W.contents writer.old }
-{
-    serve_in(
-        rt,
-        alloc,
-        Mode::Plain,
-        spools,
-        writer,
-        explanations,
-        disk,
-        workers,
-        gate,
-        bounds,
-        steward,
-    )
 }

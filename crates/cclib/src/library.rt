@@ -5,7 +5,7 @@ ghost use Rattle.std.specs.Prelude.{◌≤◌};
 use cc_answers::{Persons, greet};
 use cc_command_line::Session;
 use cc_filing::{buffers, disk_of, no_disk, tell_wide_disk};
-use cc_session::{Gate, SessionEnd, session_and_explain_in};
+use cc_session::{Gate, SessionEnd, session_and_explain};
 use cc_tasks::mode_of;
 use cc_watch::{AnswerProgress, FaultWatch};
 use std::alloc::AllocError;
@@ -82,7 +82,7 @@ where
         let _ = greet(&mut told);
     }
     let progress = Progress { rt: *rt, is_shown };
-    let (disk, end) = session_and_explain_in(
+    let (disk, end) = session_and_explain(
         rt,
         rt.alloc(),
         mode_of(asked.kind),

@@ -10,7 +10,7 @@ use cc_filing::{
     AnswerCounts, Keeper, NoFolder, Taken, buffers, count_all, no_folder, spools_of, take_to_serve,
     tell_generation, tell_kept,
 };
-use cc_session::{BOUNDS, Generation, GenerationEnd, Served, SessionEnd, Steward, serve_on_in};
+use cc_session::{BOUNDS, Generation, GenerationEnd, Served, SessionEnd, Steward, serve_on};
 use cc_spool::{FolderLayout, FolderSpool};
 use cc_tasks::mode_of;
 use std::alloc::{AllocError, Global};
@@ -170,7 +170,7 @@ where
         drop(held);
         return Err(AllocError);
     };
-    let Served { disk, spools, end } = serve_on_in(
+    let Served { disk, spools, end } = serve_on(
         rt,
         alloc,
         mode_of(asked.kind),

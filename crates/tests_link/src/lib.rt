@@ -1,40 +1,9 @@
 //! Tests of the compiler from text to run: the worked rows, the pieces of a unit in every order, each refusal, the limits,
 //! comparisons with constants, and eight programs that write the same words as when gcc compiles them. `audits` tests the
 //! audit, `checked` tests checked images, `sizes` tests what units take, `stages` tests what is shown of each stage, `watched`
-//! tests what a watcher of the passes sees and refuses, and `memory` tests what a refused allocation leaves.
+//! tests what a watcher of the passes sees and refuses, `memory` tests what a refused allocation leaves, and `pool` tests
+//! workers that compile the functions of a unit in threads.
 #![tactic(auto)]
 
 #[cfg(test)]
-mod audits;
-#[cfg(test)]
-mod checked;
-#[cfg(test)]
-mod comparisons;
-#[cfg(test)]
-mod earlier;
-#[cfg(test)]
-mod helpers;
-#[cfg(test)]
-mod limits;
-#[cfg(test)]
-mod memory;
-#[cfg(test)]
-mod numbered;
-#[cfg(test)]
-mod orders;
-#[cfg(test)]
-mod padded;
-#[cfg(test)]
-mod programs;
-#[cfg(test)]
-mod refusals;
-#[cfg(test)]
-mod registers;
-#[cfg(test)]
-mod rows;
-#[cfg(test)]
-mod sizes;
-#[cfg(test)]
-mod stages;
-#[cfg(test)]
-mod watched;
+mod tests;

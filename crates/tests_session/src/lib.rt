@@ -1,39 +1,12 @@
-//! Tests of sessions, from outside: scripts with their answers, scripts that are refused, streams and disks that fail.
+//! Tests of sessions, from outside: scripts with their answers, scripts that are refused, streams and disks that fail; and of the
+//! spool that gives a server its scripts.
 //!
 //! `helpers` runs a script on a formatted disk, `scripts` has the worked scripts, `audits` those that audit, `earlier` a library
 //! of before selection, `refusals` what is refused, `failing` readers and writers that fail, `hints` sources that are handed in
 //! before their turn, `files` a library in a file, `spools` scripts of several clients, `serving` many clients at once,
 //! `generations` one service after the other, `stopping` scripts that end while others wait, `showing` images and sources of
-//! units, `updating` the lines that compare, audit or run one unit, or measure an area.
+//! units, `updating` the lines that compare, audit or run one unit, or measure an area, `spool` the spool in a folder.
 #![tactic(auto)]
 
 #[cfg(test)]
-mod audits;
-#[cfg(test)]
-mod earlier;
-#[cfg(test)]
-mod failing;
-#[cfg(test)]
-mod files;
-#[cfg(test)]
-mod generations;
-#[cfg(test)]
-mod helpers;
-#[cfg(test)]
-mod hints;
-#[cfg(test)]
-mod names;
-#[cfg(test)]
-mod refusals;
-#[cfg(test)]
-mod scripts;
-#[cfg(test)]
-mod serving;
-#[cfg(test)]
-mod showing;
-#[cfg(test)]
-mod spools;
-#[cfg(test)]
-mod stopping;
-#[cfg(test)]
-mod updating;
+mod tests;

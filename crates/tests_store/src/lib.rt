@@ -1,35 +1,15 @@
-//! Tests of the disk and the journal, from outside: worked rows, every point of failure, and disks that lie.
+//! Tests of the store, and of the machine whose programs it keeps, from outside: worked rows, every point of failure, disks that lie,
+//! and values of other assemblers and suites.
 //!
-//! `helpers` makes disks and reads them back, and `sparse` is a disk of any size that is not honest. `disks` tests the disks of
-//! `cc_disk`, and `files` the disk on a file. `rows` has the worked rows of the journal, `logs` has those of a log, and `largest`
-//! tests the largest area. `sweep` fails the device at each call of appends in turn, and `moves` at each call of a rewrite.
-//! `hostile` opens disks that `format` did not make, `random` opens disks of random bytes, and `ahead` tests records that reading
-//! ahead cuts in two. `library` has the tests of the library, on the same disks.
+//! `journal` has the tests of disks and of the journal, `library` those of the library on the same disks, and `protocol` those of the
+//! protocol core over the library. `machine` tests instructions, images and runs.
 #![tactic(auto)]
 
 #[cfg(test)]
-mod ahead;
-#[cfg(test)]
-mod disks;
-#[cfg(test)]
-mod files;
-#[cfg(test)]
-mod helpers;
-#[cfg(test)]
-mod hostile;
-#[cfg(test)]
-mod largest;
+mod journal;
 #[cfg(test)]
 mod library;
 #[cfg(test)]
-mod logs;
+mod machine;
 #[cfg(test)]
-mod moves;
-#[cfg(test)]
-mod random;
-#[cfg(test)]
-mod rows;
-#[cfg(test)]
-mod sparse;
-#[cfg(test)]
-mod sweep;
+mod protocol;

@@ -5,21 +5,12 @@
 // that `format` did not make, and `random` opens disks with random records and bytes. `memory` refuses allocations, and `room`
 // tests what a `compact` makes room for.
 
-#[cfg(test)]
 mod certificates;
-#[cfg(test)]
 pub mod helpers;
-#[cfg(test)]
 mod hostile;
-#[cfg(test)]
 mod memory;
-#[cfg(test)]
 mod parts;
-#[cfg(test)]
 mod random;
-#[cfg(test)]
 mod room;
-#[cfg(test)]
 mod rows;
-#[cfg(test)]
 mod sweep;

@@ -1,18 +1,12 @@
-//! Tests of what the program shows to tools and people about a run or an answer: objects of JSON, the newest things of a run, how often each
-//! line is reached, which calls are open. Expected texts were written by hand from `docs/JSON.md`, `docs/LANGUAGE.md` and the programs.
+//! Tests of the commands that look into runs and libraries, over disks in memory. Runs: the newest things that a run does (`traced`), how
+//! often each line is reached (`covered`), which calls are open as it goes wrong (`open`), and programs in files (`in_files`). Libraries:
+//! units that are run (`calls`) and measured (`measures`), how two libraries differ (`differences`), what their commands were and how an
+//! earlier unit is put back (`logs`), and what a copy contains (`copies`). What programs and scripts see: objects of JSON (`json`, `lines`),
+//! faults in answers (`watches`), and command lines (`words`).
+//!
+//! Most tests are tables: one helper answers a row, and one comparison judges it. Units are made by hand (`helpers`). Expected texts were
+//! written by hand from the machine's rules, `docs/JSON.md`, `docs/LANGUAGE.md` and the programs.
 #![tactic(auto)]
 
 #[cfg(test)]
-mod covered;
-#[cfg(test)]
-mod helpers;
-#[cfg(test)]
-mod in_files;
-#[cfg(test)]
-mod json;
-#[cfg(test)]
-mod lines;
-#[cfg(test)]
-mod open;
-#[cfg(test)]
-mod traced;
+mod tests;

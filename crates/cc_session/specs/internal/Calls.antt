@@ -1,5 +1,5 @@
 -- What a command of a script does and writes.
-use Rattle.std.specs.Prelude.{◌≡◌, ◌⊎◌, ℕ, Bool, true, false, List, [], Option, Some, None, Result, Ok, Err}
+use Rattle.std.specs.Prelude.{◌≡◌, ◌⊎◌, ℕ, Bool, true, false, List, [], Option, Some, None, IsSome, Result, Ok, Err}
 use Rattle.std.specs.Io.KnownBytes.{Appends}
 use Rattle.cc_answers.specs.Telling.{Tells}
 use Rattle.cc_script.specs.declared.fault.ScriptFault.{ScriptFault}
@@ -13,8 +13,8 @@ use Rattle.cc_rv32.specs.declared.image.Image.{Image}
 use Rattle.cc_answers.specs.Run.{IsRunOf}
 use Rattle.cc_answers.specs.declared.run.ImageRun.{ImageRun}
 use Rattle.cc_service.specs.Updating.{UpdateAnswers}
-use Rattle.cc_session.specs.Telling.{IsCutOff, IsCutRun, SaysAudit, SaysChange, SaysRun, no_memory_text}
-use Rattle.cc_session.specs.Playing.{AuditsEach, CallsAndWrites, CutsRun, IsBounded, Talk, Writes, talk}
+use Rattle.cc_session.specs.Telling.{IsCutOff, IsCutRun, SaysAudit, SaysChange, SaysRunOn, no_memory_text}
+use Rattle.cc_session.specs.Playing.{AuditsEach, CallsAndWrites, CutsRun, Talk, Writes, talk}
 
 -- what `Does` says was done, and its text was written; or the text could not be written, 54, and the client is as if it had been written
 abbrev pub DoesAndTells : {T : Type 0} → (Does : Talk → Talk → Type 0) (old new : Talk) → Result T ScriptFault → Type 0
@@ -62,19 +62,19 @@ IsRunOrCut may_stop image steps None = (may_stop ≡ true) × IsCutOff image ste
 
 -- the run of the unit that was found was not written: either it was cut off, 61, or it could not be written, 54
 abbrev pub TellsRunNot : (most : Option ℕ) (steps : ℕ) → Receipt → (old new : Option (List ℕ)) → ScriptFault → Type 0
-TellsRunNot most steps receipt old new Stopped = IsBounded most × IsCutRun steps receipt.entry.reply × (new ≡ old)
-TellsRunNot most steps receipt old new fault = (fault ≡ WriteFault) × (text : List ℕ) × SaysRun steps (Ok receipt) text
+TellsRunNot most steps receipt old new Stopped = IsSome most × IsCutRun steps receipt.entry.reply × (new ≡ old)
+TellsRunNot most steps receipt old new fault = (fault ≡ WriteFault) × (text : List ℕ) × SaysRunOn [] steps (Ok receipt) text
 
 -- the run was written, if the result is Ok
 abbrev pub TellsRun : {T : Type 0} → (most : Option ℕ) (steps : ℕ) → Receipt → (old new : Option (List ℕ)) → Result T ScriptFault → Type 0
-TellsRun most steps receipt old new (Ok done) = (text : List ℕ) × SaysRun steps (Ok receipt) text × Appends old new text
+TellsRun most steps receipt old new (Ok done) = (text : List ℕ) × SaysRunOn [] steps (Ok receipt) text × Appends old new text
 TellsRun most steps receipt old new (Err fault) = TellsRunNot most steps receipt old new fault
 
 -- the unit under the name was fetched, and its run was not written
 abbrev pub RunsNot : (most : Option ℕ) (name : List ℕ) (steps : ℕ) (old new : Talk) → ScriptFault → Type 0
-RunsNot most name steps old new Stopped = IsBounded most × CutsRun name steps old new
-RunsNot most name steps old new fault = (fault ≡ WriteFault) × (written : Option (List ℕ)) × CallsAndWrites (GetAnswers name) (SaysRun steps) old (talk new.client written)
+RunsNot most name steps old new Stopped = IsSome most × CutsRun name steps old new
+RunsNot most name steps old new fault = (fault ≡ WriteFault) × (written : Option (List ℕ)) × CallsAndWrites (GetAnswers name) (SaysRunOn [] steps) old (talk new.client written)
 
 abbrev pub RunsAndTells : {T : Type 0} → (most : Option ℕ) (name : List ℕ) (steps : ℕ) (old new : Talk) → Result T ScriptFault → Type 0
-RunsAndTells most name steps old new (Ok done) = CallsAndWrites (GetAnswers name) (SaysRun steps) old new
+RunsAndTells most name steps old new (Ok done) = CallsAndWrites (GetAnswers name) (SaysRunOn [] steps) old new
 RunsAndTells most name steps old new (Err fault) = RunsNot most name steps old new fault

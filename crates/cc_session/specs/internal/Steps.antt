@@ -1,5 +1,5 @@
 -- How far a script has been done.
-use Rattle.std.specs.Prelude.{◌≡◌, ◌≢◌, ◌⊎◌, ◌<◌, ℕ, Bool, true, false, List, [], ◌∷◌, ◌++◌, length, take, Option, Some, None, IfSome, Result, Ok, Err, Vec}
+use Rattle.std.specs.Prelude.{◌≡◌, ◌≢◌, ◌⊎◌, ◌<◌, ℕ, Bool, true, false, List, [], ◌∷◌, ◌++◌, length, take, Option, Some, None, IfSome, IsSome, Result, Ok, Err, Vec}
 use Rattle.std.specs.declared.alloc.Global.{Global}
 use Rattle.cc_script.specs.Fault.{fault_number}
 use Rattle.cc_script.specs.Line.{ScriptRequest}
@@ -13,7 +13,7 @@ use Rattle.cc_history.specs.Held.{at_most_told, receipts_bytes}
 use Rattle.cc_history.specs.History.{MemberView}
 use Rattle.cc_history.specs.declared.entry.Receipt.{Receipt}
 use Rattle.cc_c_semantics.specs.declared.mode.Mode.{Mode}
-use Rattle.cc_session.specs.Playing.{CutsLine, HasUnended, IsBegun, IsBounded, IsCutShort, IsEnding, IsLight, IsPlayed, IsStoppedBy, Obeys, Talk, held_since, talk}
+use Rattle.cc_session.specs.Playing.{CutsLine, HasUnended, IsBegun, IsCutShort, IsEnding, IsLight, IsPlayed, IsStoppedBy, Obeys, Talk, held_since, talk}
 use Rattle.cc_session.specs.declared.held.Held.{Held}
 use Rattle.cc_session.specs.declared.end.SessionEnd.{SessionEnd}
 use Rattle.cc_session.specs.declared.end.SessionEnd.TheVariants.{Finished, Fault}
@@ -28,7 +28,7 @@ EndsBehind most first lines now EndOfScript = ⊥
 EndsBehind most first lines now ScriptTooLong = (bound : ℕ) × (most ≡ Some bound) × ((lines ≡ bound) ⊎ (268435456 < held_since first now))
 EndsBehind most first lines now ReadFault = ⊥
 EndsBehind most first lines now WriteFault = ⊥
-EndsBehind most first lines now Stopped = IsBounded most
+EndsBehind most first lines now Stopped = IsSome most
 
 -- a further line may be done
 abbrev pub MayGoOn : (most : Option ℕ) (first : MemberView) (lines : ℕ) (now : MemberView) → Type 0
@@ -92,7 +92,7 @@ IsDone Does IsShort IsBad before after old new (Err fault) = IsNotDone Does IsSh
 
 -- a line that asks for this was not obeyed; or the line is a `run` that was cut off, 61
 abbrev pub IsObeyedNot : Mode → (most : Option ℕ) (asked : Option ScriptRequest) (before : Ahead) (old new : Talk) → ScriptFault → Type 0
-IsObeyedNot mode most asked before old new Stopped = IsBounded most × CutsLine asked old new
+IsObeyedNot mode most asked before old new Stopped = IsSome most × CutsLine asked old new
 IsObeyedNot mode most asked before old new fault = IsNotDone (λ b a o n. Obeys mode asked b a o n) (λ rest. IsCutShort asked rest) (λ rest. HasUnended asked rest) before old new fault
 
 -- the line was obeyed, if the result is Ok

@@ -1,6 +1,6 @@
 // Bodies of both versions on a disk: files that were written before there were certificates, and units with a certificate.
 
-use crate::helpers::{are_bodies, opened as opened_journal};
+use crate::journal::helpers::{are_bodies, opened as opened_journal};
 use crate::library::helpers::{formatted, has_certificate, name, number, opened, refusal, unit};
 use cc_disk::MemoryDisk;
 use cc_library::Library;

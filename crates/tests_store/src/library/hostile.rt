@@ -1,6 +1,6 @@
 // Disks with three records, cut or changed.
 
-use crate::helpers::{SIZE, bytes_of, disk_of};
+use crate::journal::helpers::{SIZE, bytes_of, disk_of};
 use crate::library::helpers::{Step, formatted, opened, recovers, refusal, steps_done};
 use cc_disk::{FuseDisk, FuseMode, MemoryDisk};
 use cc_library::Library;

@@ -1,6 +1,6 @@
 // Disks with random records and random bytes.
 
-use crate::helpers::{bytes_of, disk_of};
+use crate::journal::helpers::{bytes_of, disk_of};
 use crate::library::helpers::{Held, formatted, next_byte, opened, recovers, refusal};
 use cc_disk::MemoryDisk;
 use cc_library::Library;

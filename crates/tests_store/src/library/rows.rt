@@ -1,6 +1,6 @@
 // The worked rows of the library.
 
-use crate::helpers::has_parts;
+use crate::journal::helpers::has_parts;
 use crate::library::helpers::{
     Held, Step, answers, crash_leaves, does, edits, formatted, holds, opened, recovers, with_a,
     word_unit,

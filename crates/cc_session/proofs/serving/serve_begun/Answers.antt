@@ -6,10 +6,9 @@ use Rattle.std.proofs.Common.{◌≡◌, ◌∙◌, ℕ, ap, arith, get_or, inr,
 use Rattle.std.proofs.Crossing.{crosses}
 use Rattle.cc_service.proofs.Sharing.{service_sync}
 use Rattle.cc_service.specs.Client.{members}
-use Rattle.cc_session.specs.Session.{HasEnded}
 use Rattle.cc_session.specs.Spooling.{HasDone, HaveServed, given_by}
 use Rattle.cc_session.specs.declared.end.SessionEnd.{SessionEnd}
-use Rattle.cc_session.proofs.Ends.{not_over, reads_back, recovers_base, unserved_by}
+use Rattle.cc_session.proofs.Ends.{HasEnded, not_over, reads_back, recovers_base, unserved_by}
 use Rattle.cc_session.proofs.Sharing.{meter_sync}
 use Rattle.cc_session.proofs.Spooling.{Each, have_done_by, none_of}
 use Rattle.cc_session.proofs.serving.serve_begun.Goals as goal

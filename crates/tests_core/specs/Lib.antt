@@ -1,2 +1,0 @@
--- the builds of the tests
-pub mod Builds

@@ -1,4 +1,0 @@
-use Rattle.tests_pool.proofs.crowds.sixteen_fill_the_queue.Given as goal
-
-abbrev pub ghosts-crowd : goal.ghosts-crowd
-ghosts-crowd g a = record { queue = a.fresh }

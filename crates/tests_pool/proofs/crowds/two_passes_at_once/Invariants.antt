@@ -1,4 +1,0 @@
-use Rattle.tests_pool.proofs.crowds.two_passes_at_once.Given as goal
-
-abbrev pub ghosts-crowd : goal.ghosts-crowd
-ghosts-crowd g a = record { queue = a.fresh }

@@ -1,4 +1,0 @@
-use Rattle.tests_pool.proofs.ends.a_pass_is_missing.Given as goal
-
-abbrev pub ghosts-missing : goal.ghosts-missing
-ghosts-missing g a = record { queue = a.fresh }

@@ -1,4 +1,0 @@
-use Rattle.tests_pool.proofs.same.images_of_worked_texts.Given as goal
-
-abbrev pub ghosts-compared : goal.ghosts-compared
-ghosts-compared g a = record { queue = a.fresh }

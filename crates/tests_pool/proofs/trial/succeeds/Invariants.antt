@@ -1,4 +1,0 @@
-use Rattle.tests_pool.proofs.trial.succeeds.Given as goal
-
-abbrev pub ghosts-begins_right : goal.ghosts-begins_right
-ghosts-begins_right g a = record { queue = a.fresh }

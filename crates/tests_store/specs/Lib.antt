@@ -1,0 +1,2 @@
+-- the builds of the tests of the protocol core
+pub mod Builds
