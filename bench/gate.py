@@ -74,11 +74,11 @@ def table(found):
 
 
 def write(found):
-    """Replaces the costs in tools/costs.txt with these."""
+    """Replaces the costs in tools/costs.txt, and the lines `# Measured` that say where they come from, with these."""
     with open(COSTS, encoding="utf-8") as file:
-        comments = [line for line in file if line.startswith("#")]
+        comments = [line for line in file if line.startswith("#") and not line.startswith("# Measured")]
     with open(COSTS, "w", encoding="utf-8") as file:
-        file.write("".join(comments) + f"# Of one whole run of the gate, {date.today().isoformat()}.\n" + "".join(f"{it.line()}\n" for it in found))
+        file.write("".join(comments) + f"# Measured in one whole run of the gate, {date.today().isoformat()}.\n" + "".join(f"{it.line()}\n" for it in found))
 
 
 class Process:
