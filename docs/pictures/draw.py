@@ -39,8 +39,8 @@ STYLE = """
 PASSES = {
     "parse": ("Unit", "the tree", "cc_ast: Parse", "SpellsText", "The text spells this tree."),
     "check": ("TypedUnit", "the typed unit", "cc_types: Typed", "IsTyped", "No rule of scope or type is broken."),
-    "to_cminor": ("CminorPair", "numbered variables", "cc_cminor: Pair", "KeepsUp", "The code keeps up with the C function: its output, its end, its loops."),
-    "guard": ("CminorPair", "with guards", "cc_cminor: Pair", "KeepsUp", "Only in a checked image: keeps up with the function that stops in place."),
+    "to_cminor": ("CminorPair", "numbered variables", "cc_cminor_language: Pair", "KeepsUp", "The code keeps up with the C function: its output, its end, its loops."),
+    "guard": ("CminorPair", "with guards", "cc_cminor_language: Pair", "KeepsUp", "Only in a checked image: keeps up with the function that stops in place."),
     "to_rtl": ("RtlPair", "a graph of nodes", "cc_rtl_language: Pair", "KeepsUp", "The same, over as many pseudo-registers as are needed."),
     "drop_faint": ("RtlPair", "without dead nodes", "cc_live: Liveness", "IsWithoutFaint", "The same; only nodes whose results nobody needs are gone."),
     "colour": ("Ltl", "registers and slots", None, None, "Nothing: the allocator is not trusted."),

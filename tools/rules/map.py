@@ -14,7 +14,7 @@ import sys
 TOP = pathlib.Path(__file__).resolve().parent.parent.parent
 PAGE = TOP / "docs" / "ARCHITECTURE.md"
 ROW = re.compile(r"^\| (\d*) ?\| `(cc\w+)` \| ((?:`\w+` ?)*)\| ", re.M)
-MOST_ARROWS = 7  # cc_link, in which the passes, the front end and the unit meet
+MOST_ARROWS = 8  # cc_link, in which the passes, the front end and the unit meet
 
 
 def product():
@@ -63,7 +63,7 @@ def computed():
 
 
 def drawn_map():
-    """The table "The map of the crates" of docs/ARCHITECTURE.md has each crate's layer and arrows, and no crate has more than 7 arrows."""
+    """The table "The map of the crates" of docs/ARCHITECTURE.md has each crate's layer and arrows, and no crate has more than 8 arrows."""
     _, arrows, rows = computed()
     drawn = {crate: (number, there.strip()) for number, crate, there in ROW.findall(PAGE.read_text())}
     wrong = [f"{crate}: layer and arrows are {rows[crate]}" for crate in rows if drawn.get(crate) != rows[crate]]

@@ -1,13 +1,13 @@
 -- The name of an array in a unit is the name of an object.
 use Rattle.std.proofs.Common.{◌≡◌, ℕ, suc, ◌+◌, Bool, true, false, true≢false, ◌||◌, if◌then◌else◌, List, [], ◌∷◌, ◌++◌, ◌⊎◌, inl, inr, Some, option_map, refl, sym, ap, ◌∙◌}
-use Rattle.cc_resolve.specs.scalar.Scalar.{Scalar}
-use Rattle.cc_resolve.specs.scalar.Scalar.TheVariants.{Int}
+use Rattle.cc_ast.specs.scalar.Scalar.{Scalar}
+use Rattle.cc_ast.specs.scalar.Scalar.TheVariants.{Int}
 use Rattle.cc_ast.specs.Tree.{Signature, Object, Single, Array, Bytes, External, Declaration, Definition, Objects}
 use Rattle.cc_types.specs.Names.{same_name}
 use Rattle.cc_types.specs.Scope.{Entity, Variable, Elements, found, is_declared, FileScope, with_declared, function_entity, with_function, with_object, with_objects, file_scope_behind, file_scope_behind_all}
 use Rattle.cc_types.specs.Types.{object_elements}
-use Rattle.cc_resolve.specs.Limits.{objects, object_name}
-use Rattle.cc_resolve.specs.Layout.{laid_from, object_number}
+use Rattle.cc_types.specs.Limits.{objects, object_name}
+use Rattle.cc_layout.specs.Layout.{laid_from, object_number}
 
 -- one of these objects has this name
 abbrev is_named : List Object → List ℕ → Bool

@@ -3,18 +3,18 @@
 use Rattle.std.proofs.Common.{◌≡◌, ℕ, Bool, true, false, true≢false, ◌||◌, ◌&&◌, ◌==◌, if◌then◌else◌, List, [], ◌∷◌, ◌++◌, length, map, inr, Option, Some, None, codes, refl, sym, ap, ◌∙◌, subst}
 use Rattle.std.proofs.lemmas.List.{length-map}
 use Rattle.std.proofs.lemmas.Bool.{eqb-true}
-use Rattle.cc_resolve.specs.scalar.Scalar.{Scalar}
-use Rattle.cc_resolve.specs.scalar.Scalar.TheVariants.{Int}
+use Rattle.cc_ast.specs.scalar.Scalar.{Scalar}
+use Rattle.cc_ast.specs.scalar.Scalar.TheVariants.{Int}
 use Rattle.cc_ast.specs.Tree.{Name, Stmts, Parameter, Signature, External, Declaration, Definition, Objects}
 use Rattle.cc_types.specs.Names.{same_name}
 use Rattle.cc_types.specs.Scope as scope
 use Rattle.cc_types.specs.Scope.{Binding, found, FileScope, has_name, first_file_scope, with_function, with_objects, file_scope_behind, file_scope_behind_all, body_scope, same_result}
 use Rattle.cc_types.specs.Rules.{broken_if, signature_errors, statements_errors, external_errors, externals_errors, is_main, defines_main}
-use Rattle.cc_resolve.specs.rule.Rule.TheVariants.{Redeclared}
-use Rattle.cc_resolve.specs.Limits.{function_names}
+use Rattle.cc_types.specs.declared.rule.Rule.TheVariants.{Redeclared}
+use Rattle.cc_types.specs.Limits.{function_names}
 use Rattle.cc_types.specs.Typed.{IsTyped}
-use Rattle.cc_resolve.specs.Layout.{Layout, layout_of}
-use Rattle.cc_resolve.specs.Environment.{environment_of}
+use Rattle.cc_layout.specs.Layout.{Layout, layout_of}
+use Rattle.cc_layout.specs.Environment.{environment_of}
 use Rattle.cc_c_semantics.specs.Meaning.{Function, text_of, functions_from, functions, function_named}
 use Rattle.cc_c_semantics.proofs.Errors.{nil_left, nil_right}
 use Rattle.cc_c_semantics.proofs.Named.{same_name_symm, objects_keep}

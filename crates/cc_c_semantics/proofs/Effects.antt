@@ -4,8 +4,8 @@ use Rattle.std.proofs.Common.{◌≡◌, ℕ, zero, suc, ◌+◌, ◌<◌, Bool,
 use Rattle.std.proofs.lemmas.List.{nil_from_length}
 use Rattle.cc_ast.specs.Tree.{External}
 use Rattle.cc_types.specs.Names.{same_name}
-use Rattle.cc_resolve.specs.Layout.{names_before, layout_of, callee}
-use Rattle.cc_resolve.specs.declared.layout.Callee.TheVariants.{WriteWord, ReadWord, Defined}
+use Rattle.cc_layout.specs.Layout.{names_before, layout_of, callee}
+use Rattle.cc_layout.specs.declared.layout.Callee.TheVariants.{WriteWord, ReadWord, Defined}
 use Rattle.cc_c_semantics.specs.declared.cause.Cause.{Cause}
 use Rattle.cc_c_semantics.specs.declared.cause.Cause.TheVariants.{Depth}
 use Rattle.cc_simulation.specs.Behavior.{IsPrefixOf}

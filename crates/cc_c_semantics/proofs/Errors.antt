@@ -1,12 +1,12 @@
 -- What follows if a list of errors is empty.
 use Rattle.std.proofs.Common.{◌≡◌, ℕ, Bool, true, false, not, ◌||◌, ◌==◌, List, [], ◌∷◌, ◌++◌, length, Option, Some, None, refl, ap, ◌∙◌}
 use Rattle.std.proofs.lemmas.Bool.{eqb-true}
-use Rattle.cc_resolve.specs.scalar.Scalar.{Scalar}
+use Rattle.cc_ast.specs.scalar.Scalar.{Scalar}
 use Rattle.cc_ast.specs.Tree.{Name}
 use Rattle.cc_types.specs.Scope.{Entity, Variable, Elements, Function, has_name}
-use Rattle.cc_resolve.specs.rule.RuleError.{RuleError}
-use Rattle.cc_resolve.specs.rule.Rule.{Rule}
-use Rattle.cc_resolve.specs.rule.Rule.TheVariants.{Unknown, WrongKind, WrongCount, Undefined}
+use Rattle.cc_types.specs.declared.rule.RuleError.{RuleError}
+use Rattle.cc_types.specs.declared.rule.Rule.{Rule}
+use Rattle.cc_types.specs.declared.rule.Rule.TheVariants.{Unknown, WrongKind, WrongCount, Undefined}
 use Rattle.cc_types.specs.Rules.{broken_if, variable_errors, array_errors, function_errors, undefined_among}
 
 pub nil_left : {A : Type 0} (xs ys : List A) → xs ++ ys ≡ [] → xs ≡ []

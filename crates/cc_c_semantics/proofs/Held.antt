@@ -3,9 +3,9 @@ use Rattle.std.proofs.Common.{◌≡◌, ℕ, zero, suc, ◌+◌, ◌<◌, ◌�
 use Rattle.std.proofs.lemmas.List.{reverse-append, length-map, length-reverse}
 use Rattle.cc_words.specs.Widths.{kept}
 use Rattle.cc_types.specs.Names.{same_name}
-use Rattle.cc_resolve.specs.declared.layout.Extent.{Extent}
-use Rattle.cc_resolve.specs.Layout.{LaidObject, extent_of}
-use Rattle.cc_resolve.specs.Environment.{number_in}
+use Rattle.cc_layout.specs.declared.layout.Extent.{Extent}
+use Rattle.cc_layout.specs.Layout.{LaidObject, extent_of}
+use Rattle.cc_layout.specs.Environment.{number_in}
 use Rattle.cc_c_semantics.specs.Meaning.{Local, Global, local_word, global_words, with_local_word, with_element}
 
 -- ---- lists

@@ -3,7 +3,7 @@ use Rattle.std.proofs.Common.{◌≡◌, ℕ, suc, ◌<◌, [], length, Some, co
 use Rattle.cc_c_semantics.specs.Meaning.{Run, Gives, Going, Wrong, functions, calls, initial_globals, outcome_of}
 use Rattle.cc_c_semantics.specs.Function.{effect_of}
 use Rattle.cc_c_semantics.specs.Calls.{main_of, outcome_of_effect, TypedUnitsHaveMain, ProgramsCallMain}
-use Rattle.cc_resolve.specs.Layout.{layout_of}
+use Rattle.cc_layout.specs.Layout.{layout_of}
 use Rattle.cc_c_semantics.proofs.Numbers.{as_many_names, name_of_number, number_below, function_of_name, arity_of_number}
 use Rattle.cc_c_semantics.proofs.Bodies.{main_named, main_parameters}
 

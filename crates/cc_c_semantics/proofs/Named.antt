@@ -4,12 +4,12 @@ use Rattle.std.proofs.Common.{◌≡◌, ℕ, zero, suc, ◌+◌, ◌<◌, true,
 use Rattle.std.proofs.lemmas.Bool.{lt-ltb}
 use Rattle.std.proofs.lemmas.Option.{slice_get-map}
 use Rattle.std.proofs.lemmas.Cmp.{nat_list_eq_equiv}
-use Rattle.cc_resolve.specs.scalar.Scalar.{Scalar}
+use Rattle.cc_ast.specs.scalar.Scalar.{Scalar}
 use Rattle.cc_ast.specs.Tree.{Object, Single, Array, Bytes, External, Declaration, Definition, Objects}
 use Rattle.cc_types.specs.Names.{same_name}
 use Rattle.cc_types.specs.Scope.{FileScope, has_name, first_file_scope, with_object, with_objects, file_scope_behind, body_scope}
 use Rattle.cc_types.specs.Rules.{broken_if, signature_errors, statements_errors, external_errors, externals_errors}
-use Rattle.cc_resolve.specs.rule.Rule.TheVariants.{Redeclared}
+use Rattle.cc_types.specs.declared.rule.Rule.TheVariants.{Redeclared}
 use Rattle.cc_types.specs.Typed.{IsTyped}
 use Rattle.cc_c_semantics.specs.Meaning.{State, Function, functions_from, functions, function_named, calls, run_optional, most_open}
 use Rattle.cc_c_semantics.specs.Function.{Shared, effect_of, state_within, name_of_function, call_function, body_of_function, TypedUnitsHaveMeaning}

@@ -7,8 +7,8 @@ use Rattle.cc_ast.specs.Tree.{Name, Object, External, Declaration, Definition, O
 use Rattle.cc_types.specs.Names.{same_name}
 use Rattle.cc_types.specs.Scope.{FileScope, has_name, first_file_scope, file_scope_behind}
 use Rattle.cc_types.specs.Types.{object_elements, object_width}
-use Rattle.cc_resolve.specs.Limits.{function_names, objects, object_name}
-use Rattle.cc_resolve.specs.Layout.{LaidObject, laid_from, extent_of, object_number, names_before, layout_of}
+use Rattle.cc_types.specs.Limits.{function_names, objects, object_name}
+use Rattle.cc_layout.specs.Layout.{LaidObject, laid_from, extent_of, object_number, names_before, layout_of}
 use Rattle.cc_c_semantics.specs.Meaning.{Global, Function, functions_from, functions, function_named, initial_global}
 use Rattle.cc_c_semantics.specs.Function.{name_of_function}
 use Rattle.cc_c_semantics.specs.Resolved.{arities}

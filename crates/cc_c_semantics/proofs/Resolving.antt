@@ -1,17 +1,17 @@
 -- In a typed unit each name in the body of a function refers to what the body needs.
 use Rattle.std.proofs.Common.{◌≡◌, ℕ, zero, suc, ◌<◌, false, if◌then◌else◌, List, [], ◌∷◌, ◌++◌, length, map, inl, inr, Option, Some, None, slice_get, codes, refl, sym, ap, ◌∙◌, subst, arith}
-use Rattle.cc_resolve.specs.scalar.Scalar.{Scalar}
+use Rattle.cc_ast.specs.scalar.Scalar.{Scalar}
 use Rattle.cc_ast.specs.Tree as tree
 use Rattle.cc_ast.specs.Tree.{Expr, Exprs, none, more, Number, Variable, Element, Parenthesised, Unary, Cast, Binary, Conditional, Target, AtVariable, AtElement, Action, Assign, Step, Evaluate, Declarator, Beginning, Declares, Performs, Stmt, Stmts, end, next, Block, Perform, Return, Break, Continue, If, IfElse, While, DoWhile, For, Parameter, Signature, External, Declaration, Definition, Objects}
 use Rattle.cc_types.specs.Names.{same_name}
 use Rattle.cc_types.specs.Scope as scope
 use Rattle.cc_types.specs.Scope.{found, Visible, in_scope, opened, scope_behind, scope_behind_beginning, FileScope, has_name, first_file_scope, with_objects, file_scope_behind, file_scope_behind_all, body_scope}
 use Rattle.cc_types.specs.Rules.{broken, broken_if, array_errors, function_errors, count_of, void_errors, expression_errors, argument_errors, value_errors, optional_errors, target_errors, action_errors, optional_action_errors, declared_errors, beginning_errors, return_errors, Around, within_loop, statement_errors, statements_errors, signature_errors, external_errors, externals_errors, undefined_among, called_in, called_in_all, called_in_optional, called_in_target, called_in_action, called_in_optional_action, called_in_declared, called_in_beginning, called_in_statement, called_in_statements, called_in_external, called}
-use Rattle.cc_resolve.specs.rule.Rule.TheVariants.{Redeclared, WrongKind, BadAssign, BadReturn}
+use Rattle.cc_types.specs.declared.rule.Rule.TheVariants.{Redeclared, WrongKind, BadAssign, BadReturn}
 use Rattle.cc_types.specs.Typed.{IsTyped, definitions}
-use Rattle.cc_resolve.specs.Layout.{Layout, names_before, layout_of, callee}
-use Rattle.cc_resolve.specs.declared.layout.Callee.TheVariants.{WriteWord, ReadWord, Defined}
-use Rattle.cc_resolve.specs.Environment.{Environment, types_in, inner, with_local, behind, behind_beginning, parameter_names, environment_of, environments_from}
+use Rattle.cc_layout.specs.Layout.{Layout, names_before, layout_of, callee}
+use Rattle.cc_layout.specs.declared.layout.Callee.TheVariants.{WriteWord, ReadWord, Defined}
+use Rattle.cc_layout.specs.Environment.{Environment, types_in, inner, with_local, behind, behind_beginning, parameter_names, environment_of, environments_from}
 use Rattle.cc_c_semantics.specs.Meaning.{text_of, functions_from, functions}
 use Rattle.cc_c_semantics.specs.Resolved.{arities, IsPlaced, IsVariable, IsCalled, ExprResolved, ExprsResolved, OptionalResolved, TargetResolved, ActionResolved, OptionalActionResolved, DeclaratorsResolved, BeginningResolved, StmtResolved, StmtsResolved, FunctionsAreResolved}
 use Rattle.cc_c_semantics.proofs.Errors.{nil_left, nil_right, defined_left, defined_right, is_defined, variable_found, array_found, function_found}

@@ -1,16 +1,16 @@
 -- What names in scope refer to, in an environment and after declarations, statements and parameters.
 use Rattle.std.proofs.Common.{◌≡◌, ℕ, ◌+◌, ◌≤◌, Bool, true, false, if◌then◌else◌, List, [], ◌∷◌, ◌++◌, length, ◌⊎◌, inl, inr, Option, Some, None, refl, sym, ap, ◌∙◌, subst, arith, append_assoc}
-use Rattle.cc_resolve.specs.scalar.Scalar.{Scalar}
+use Rattle.cc_ast.specs.scalar.Scalar.{Scalar}
 use Rattle.cc_types.specs.Names.{same_name}
 use Rattle.cc_types.specs.Scope as scope
 use Rattle.cc_types.specs.Scope.{found, all_declared, scope_behind, Visible, parameter_declared, parameters_declared}
-use Rattle.cc_resolve.specs.Environment.{Environment, types_in, inner, with_local, number_in, with_locals, behind, parameter_names}
-use Rattle.cc_resolve.specs.Layout.{Layout, extent_of}
+use Rattle.cc_layout.specs.Environment.{Environment, types_in, inner, with_local, number_in, with_locals, behind, parameter_names}
+use Rattle.cc_layout.specs.Layout.{Layout, extent_of}
 use Rattle.cc_c_semantics.specs.Resolved.{IsObject, IsOneWord}
 use Rattle.std.proofs.lemmas.List.{length-map}
 use Rattle.cc_ast.specs.Tree as tree
 use Rattle.cc_ast.specs.Tree.{Declarator, Stmt, Block, Perform, Return, Break, Continue, If, IfElse, While, DoWhile, For, Name, Parameter}
-use Rattle.cc_resolve.specs.Limits.{locals_of}
+use Rattle.cc_types.specs.Limits.{locals_of}
 
 -- a variable in scope is a local, or an object of one word
 abbrev pub Readable : Environment → List ℕ → Type 0

@@ -5,17 +5,17 @@ use Rattle.std.proofs.lemmas.List.{length-map, length-replicate}
 use Rattle.std.proofs.lemmas.Bool.Decides.{leb_tells}
 use Rattle.std.proofs.lemmas.Cmp.{nat_list_eq_equiv}
 use Rattle.cc_simulation.specs.operators.Width.TheVariants.{Byte, Word}
-use Rattle.cc_resolve.specs.scalar.Scalar.{Scalar}
-use Rattle.cc_resolve.specs.scalar.Scalar.TheVariants.{Int}
+use Rattle.cc_ast.specs.scalar.Scalar.{Scalar}
+use Rattle.cc_ast.specs.scalar.Scalar.TheVariants.{Int}
 use Rattle.cc_ast.specs.Tree.{Name, ConstantExpr, Parameter, Signature, Object, Single, Array, Bytes, External, Declaration, Definition, Objects}
 use Rattle.cc_types.specs.Names.{same_name}
 use Rattle.cc_types.specs.Scope.{Entity, Variable, Elements, Function, Binding, found, is_declared, FileScope, with_declared, function_entity, with_function, with_object, with_objects, file_scope_behind, file_scope_behind_all, same_scalar, same_scalars, same_result}
 use Rattle.cc_types.specs.Types.{constant_word, elements_of_word, array_length, array_elements, object_elements, object_width, initial_word, zeros_behind, initial_words}
 use Rattle.cc_types.specs.Types as types
 use Rattle.cc_types.specs.Rules.{broken_if, differs, signature_errors, parameters_errors, optional_constant_errors, constants_errors, length_errors, named_array_errors, object_errors, objects_errors, value_errors, external_errors, externals_errors}
-use Rattle.cc_resolve.specs.rule.Rule.TheVariants.{Redeclared, WrongKind, WrongCount}
-use Rattle.cc_resolve.specs.Limits.{objects, object_name}
-use Rattle.cc_resolve.specs.Layout.{LaidObject, laid_from, extent_of}
+use Rattle.cc_types.specs.declared.rule.Rule.TheVariants.{Redeclared, WrongKind, WrongCount}
+use Rattle.cc_types.specs.Limits.{objects, object_name}
+use Rattle.cc_layout.specs.Layout.{LaidObject, laid_from, extent_of}
 use Rattle.cc_c_semantics.specs.Resolved.{IsOneWord}
 use Rattle.cc_c_semantics.proofs.Errors.{nil_left, nil_right, not_broken, or_left, or_right}
 use Rattle.cc_c_semantics.proofs.Named.{name_is_itself, same_name_symm}

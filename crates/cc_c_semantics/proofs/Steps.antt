@@ -2,13 +2,13 @@
 -- recursion on how many more may be opened.
 use Rattle.std.proofs.Common.{◌≡◌, ℕ, zero, suc, ◌+◌, ◌-◌, ◌<◌, ◌≤◌, List, [], ◌∷◌, ◌++◌, Bool, true, false, if◌then◌else◌, length, nat_lt, Option, Some, None, is_some, slice_get, codes, refl, sym, ◌∙◌, arith, inl, inr, true≢false}
 use Rattle.std.proofs.lemmas.Bool.Decides.{leb_tells}
-use Rattle.cc_resolve.specs.scalar.Scalar.{Scalar}
-use Rattle.cc_resolve.specs.scalar.Scalar.TheVariants.{Int}
-use Rattle.cc_resolve.specs.ast.BinaryOperator.{BinaryOperator}
+use Rattle.cc_ast.specs.scalar.Scalar.{Scalar}
+use Rattle.cc_ast.specs.scalar.Scalar.TheVariants.{Int}
+use Rattle.cc_ast.specs.declared.ast.BinaryOperator.{BinaryOperator}
 use Rattle.cc_ast.specs.Tree as tree
 use Rattle.cc_ast.specs.Tree.{Name, Expr, Exprs, none, more, Number, Variable, Element, Call, Parenthesised, Unary, Cast, Binary, Conditional, Target, AtVariable, AtElement, Action, Assign, Step, Evaluate, Declarator, Beginning, Declares, Performs, Stmt, Stmts, end, next, Block, Perform, Return, Break, Continue, If, IfElse, While, DoWhile, For}
 use Rattle.cc_types.specs.Names.{same_name}
-use Rattle.cc_resolve.specs.Operators.{working_type, unary_word, binary_word, decided, applied_operator, step_operator}
+use Rattle.cc_types.specs.Operators.{working_type, unary_word, binary_word, decided, applied_operator, step_operator}
 use Rattle.cc_types.specs.Scope as scope
 use Rattle.cc_types.specs.Scope.{Binding, Visible, in_scope, opened, declared, scope_behind, scope_behind_beginning}
 use Rattle.cc_types.specs.Types.{value_type, target_type}

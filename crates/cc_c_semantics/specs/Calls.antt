@@ -4,9 +4,9 @@ use Rattle.std.specs.Prelude.{◌≡◌, ℕ, ◌+◌, ◌<◌, List, [], ◌++�
 use Rattle.cc_simulation.specs.operators.Width.{Width}
 use Rattle.cc_ast.specs.Tree.{External, Source}
 use Rattle.cc_types.specs.Typed.{IsTyped}
-use Rattle.cc_resolve.specs.Layout.{LaidObject, names_before, layout_of, callee}
-use Rattle.cc_resolve.specs.declared.layout.Callee.{Callee}
-use Rattle.cc_resolve.specs.declared.layout.Callee.TheVariants.{WriteWord, ReadWord, Defined}
+use Rattle.cc_layout.specs.Layout.{LaidObject, names_before, layout_of, callee}
+use Rattle.cc_layout.specs.declared.layout.Callee.{Callee}
+use Rattle.cc_layout.specs.declared.layout.Callee.TheVariants.{WriteWord, ReadWord, Defined}
 use Rattle.cc_simulation.specs.Behavior.{IsPrefixOf}
 use Rattle.cc_c_semantics.specs.Outcome as outcome
 use Rattle.cc_c_semantics.specs.Outcome.{Outcome}

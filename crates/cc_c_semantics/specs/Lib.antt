@@ -15,4 +15,4 @@ pub mod Numbered
 -- worked examples
 pub mod rows
 -- Modules of the crates below that clauses here use, re-exported.
-pub use Rattle.cc_resolve.specs.Layout
+pub use Rattle.cc_layout.specs.Layout

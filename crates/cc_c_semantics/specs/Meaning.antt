@@ -7,18 +7,18 @@
 use Rattle.std.specs.Prelude.{ℕ, zero, suc, ◌+◌, ◌-◌, true, false, List, [], ◌∷◌, ◌++◌, length, drop, map, nat_lt, if◌then◌else◌, Option, Some, None, is_some, unwrap_or, slice_get, slice_set, codes}
 use Rattle.cc_words.specs.Widths.{kept}
 use Rattle.cc_simulation.specs.operators.Width.{Width}
-use Rattle.cc_resolve.specs.scalar.Scalar.{Scalar}
-use Rattle.cc_resolve.specs.scalar.Scalar.TheVariants.{Int}
-use Rattle.cc_resolve.specs.ast.BinaryOperator.{BinaryOperator}
-use Rattle.cc_resolve.specs.ast.BinaryOperator.TheVariants.{ShiftLeft, ShiftRight}
+use Rattle.cc_ast.specs.scalar.Scalar.{Scalar}
+use Rattle.cc_ast.specs.scalar.Scalar.TheVariants.{Int}
+use Rattle.cc_ast.specs.declared.ast.BinaryOperator.{BinaryOperator}
+use Rattle.cc_ast.specs.declared.ast.BinaryOperator.TheVariants.{ShiftLeft, ShiftRight}
 use Rattle.cc_ast.specs.Tree as tree
 use Rattle.cc_ast.specs.Tree.{Name, Expr, Exprs, none, more, Number, Variable, Element, Call, Parenthesised, Unary, Cast, Binary, Conditional, Target, AtVariable, AtElement, Action, Assign, Step, Evaluate, Declarator, Beginning, Declares, Performs, Stmt, Stmts, end, next, Block, Perform, Return, Break, Continue, If, IfElse, While, DoWhile, For, Parameter, Object, External, Source}
 use Rattle.cc_types.specs.Names.{same_name}
-use Rattle.cc_resolve.specs.Operators.{working_type, unary_word, binary_word, decided, applied_operator, step_operator}
+use Rattle.cc_types.specs.Operators.{working_type, unary_word, binary_word, decided, applied_operator, step_operator}
 use Rattle.cc_types.specs.Scope as scope
 use Rattle.cc_types.specs.Scope.{Binding, Visible, in_scope, opened, declared, scope_behind, scope_behind_beginning, body_scope, FileScope, first_file_scope, file_scope_behind}
 use Rattle.cc_types.specs.Types.{value_type, target_type, object_width, initial_words}
-use Rattle.cc_resolve.specs.Limits.{objects, object_name}
+use Rattle.cc_types.specs.Limits.{objects, object_name}
 use Rattle.cc_c_semantics.specs.Outcome as outcome
 use Rattle.cc_c_semantics.specs.Outcome.{Outcome}
 use Rattle.cc_c_semantics.specs.declared.cause.Cause.{Cause}

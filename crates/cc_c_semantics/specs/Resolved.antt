@@ -3,16 +3,16 @@
 -- arguments as that has parameters.
 use Rattle.std.specs.Prelude.{◌≡◌, ℕ, ◌<◌, List, [], ◌∷◌, length, map, Option, Some, None, slice_get}
 use Rattle.cc_simulation.specs.operators.Width.TheVariants.{Word}
-use Rattle.cc_resolve.specs.scalar.Scalar.{Scalar}
+use Rattle.cc_ast.specs.scalar.Scalar.{Scalar}
 use Rattle.cc_ast.specs.Tree as tree
 use Rattle.cc_ast.specs.Tree.{Expr, Exprs, none, more, Number, Variable, Element, Parenthesised, Unary, Cast, Binary, Conditional, Target, AtVariable, AtElement, Action, Assign, Step, Evaluate, Declarator, Beginning, Declares, Performs, Stmt, Stmts, end, next, Block, Perform, Return, Break, Continue, If, IfElse, While, DoWhile, For, Parameter, Signature, External, Definition}
 use Rattle.cc_types.specs.Rules.{count_of}
 use Rattle.cc_types.specs.Typed.{IsTyped, definitions}
-use Rattle.cc_resolve.specs.Layout.{object_number, extent_of, layout_of, callee}
-use Rattle.cc_resolve.specs.declared.layout.Extent.{Extent}
-use Rattle.cc_resolve.specs.declared.layout.Callee.{Callee}
-use Rattle.cc_resolve.specs.declared.layout.Callee.TheVariants.{WriteWord, ReadWord, Defined}
-use Rattle.cc_resolve.specs.Environment.{Environment, number_in, inner, with_local, behind, behind_beginning, parameter_names, environments}
+use Rattle.cc_layout.specs.Layout.{object_number, extent_of, layout_of, callee}
+use Rattle.cc_layout.specs.declared.layout.Extent.{Extent}
+use Rattle.cc_layout.specs.declared.layout.Callee.{Callee}
+use Rattle.cc_layout.specs.declared.layout.Callee.TheVariants.{WriteWord, ReadWord, Defined}
+use Rattle.cc_layout.specs.Environment.{Environment, number_in, inner, with_local, behind, behind_beginning, parameter_names, environments}
 use Rattle.cc_c_semantics.specs.Meaning.{Function, text_of, functions}
 
 -- how many parameters each function has, in the order of definitions

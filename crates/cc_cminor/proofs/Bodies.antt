@@ -3,10 +3,10 @@ use Rattle.std.proofs.Common.{◌≡◌, ◌⊎◌, inl, inr, ℕ, suc, ◌+◌,
 use Rattle.std.proofs.lemmas.List.{length-map}
 use Rattle.std.proofs.lemmas.Option.{slice_get-get_or, slice_get-map}
 use Rattle.cc_ast.specs.Tree.{External, Name, Parameter}
-use Rattle.cc_resolve.specs.Layout.{Layout, LaidObject, layout_of, callee}
-use Rattle.cc_resolve.specs.Environment.{Environment, parameter_names}
-use Rattle.cc_resolve.specs.declared.layout.Callee.{Callee}
-use Rattle.cc_resolve.specs.declared.layout.Callee.TheVariants.{WriteWord, ReadWord, Defined}
+use Rattle.cc_layout.specs.Layout.{Layout, LaidObject, layout_of, callee}
+use Rattle.cc_layout.specs.Environment.{Environment, parameter_names}
+use Rattle.cc_layout.specs.declared.layout.Callee.{Callee}
+use Rattle.cc_layout.specs.declared.layout.Callee.TheVariants.{WriteWord, ReadWord, Defined}
 use Rattle.cc_c_semantics.specs.Meaning as meaning
 use Rattle.cc_c_semantics.specs.Meaning.{Global, State, Run, Gives, Flow, Falls, Breaks, Continues, Returns, then_do, execute_all, Function, functions, calls, bound, result_of, run_optional, initial_globals, text_of}
 use Rattle.cc_c_semantics.specs.Function.{Shared, effect_of, state_within, call_function}
@@ -26,9 +26,9 @@ use Rattle.cc_simulation.specs.World.{World, Question, Answer, Effect}
 use Rattle.cc_simulation.specs.Run.{tried, Returns as Ret, run, act}
 use Rattle.cc_simulation.specs.Meaning.{Meaning, most_open, IsCall, call_effect}
 use Rattle.cc_simulation.specs.Tracks.{Keeping}
-use Rattle.cc_cminor.specs.Cminor.{Ends, Config, config, cminor_move, cminor_output, first_variables}
-use Rattle.cc_cminor.specs.Breaks.{BreaksAt}
-use Rattle.cc_cminor.specs.Pair.{KeepsUp, FailsAlike, GoesWrong}
+use Rattle.cc_cminor_language.specs.Cminor.{Ends, Config, config, cminor_move, cminor_output, first_variables}
+use Rattle.cc_cminor_language.specs.Breaks.{BreaksAt}
+use Rattle.cc_cminor_language.specs.Pair.{KeepsUp, FailsAlike, GoesWrong}
 use Rattle.cc_cminor.specs.internal.Lowering.{body_code}
 use Rattle.cc_cminor.proofs.Paths.{world_at, Calling, Cut, Lost, Reaches, Stuck, Comes}
 use Rattle.cc_cminor.proofs.Known.{AllKnownIn, all_known_in}

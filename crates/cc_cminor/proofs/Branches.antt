@@ -14,7 +14,7 @@ use Rattle.cc_words.specs.declared.operators.Binary.TheVariants as two
 use Rattle.cc_words.proofs.Laws.{le_s-lt_s, le_u-lt_u, lt_s_cases, lt_u_cases}
 use Rattle.cc_simulation.specs.World.{World}
 use Rattle.cc_simulation.specs.Run.{Goes, Fails, tried}
-use Rattle.cc_cminor.specs.Cminor.{Expression, Constant, Local, Unary, Binary, Load, then_value, value, Statement, If, Continuation, config, chosen, moves}
+use Rattle.cc_cminor_language.specs.Cminor.{Expression, Constant, Local, Unary, Binary, Load, then_value, value, Statement, If, Continuation, config, chosen, moves}
 use Rattle.cc_cminor.specs.internal.Lowering.{is_nothing, is_constant, compared, is_opposite, condition, is_reversed, branch}
 
 abbrev flipped : (reversed holds : Bool) → Bool

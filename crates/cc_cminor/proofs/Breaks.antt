@@ -3,7 +3,7 @@ use Rattle.std.proofs.Common.{◌≡◌, ℕ, zero, suc, List, Option, Some, Non
 use Rattle.cc_simulation.specs.Behavior.{Wrong}
 use Rattle.cc_simulation.specs.World.{Question, Answer, Effect, Gives, Unfinished, Failed}
 use Rattle.cc_simulation.specs.Run.{Move, Goes, Calls, Returns, Fails, run, act, resumed}
-use Rattle.cc_cminor.specs.Breaks.{broken, broken_act, broken_resumed}
+use Rattle.cc_cminor_language.specs.Breaks.{broken, broken_act, broken_resumed}
 
 module _ {C : Type 0} (move : C → Move C) (output : C → List ℕ) (effect : ℕ → Question → Effect) where
   -- a run that breaks within k moves goes wrong there, with this output

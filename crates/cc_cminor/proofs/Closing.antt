@@ -4,11 +4,11 @@ use Rattle.cc_tokens.specs.declared.scalar.Scalar.{Scalar}
 use Rattle.cc_ast.specs.Tree as tree
 use Rattle.cc_ast.specs.Tree.{Declarator, Beginning, Declares, Performs, Stmt, Stmts, end, next}
 use Rattle.cc_types.specs.Scope.{Binding}
-use Rattle.cc_types.specs.Bindings.{closed}
-use Rattle.cc_resolve.specs.Layout.{Layout}
+use Rattle.cc_scope.specs.Bindings.{closed}
+use Rattle.cc_layout.specs.Layout.{Layout}
 use Rattle.std.proofs.lemmas.List.{length-drop, length-append}
 use Rattle.std.proofs.Math.Seq.{take-append_seam, drop-append_seam}
-use Rattle.cc_resolve.specs.Environment.{Environment, inner, with_local, with_locals, behind, behind_beginning}
+use Rattle.cc_layout.specs.Environment.{Environment, inner, with_local, with_locals, behind, behind_beginning}
 use Rattle.cc_cminor.specs.internal.Lowering.{behind_all}
 
 -- some of the newest locals are removed, but none of the first `locals` ones

@@ -7,14 +7,14 @@ use Rattle.cc_ast.specs.Tree as tree
 use Rattle.cc_ast.specs.Tree.{Expr, Exprs, none, more, Number, Variable, Element, Parenthesised, Unary, Cast, Binary, Conditional, Target, AtVariable, AtElement, Action, Assign, Step, Evaluate, Declarator, Beginning, Declares, Performs, Stmt, Stmts, end, next, Perform, Break, Continue, IfElse, While, DoWhile, For}
 use Rattle.cc_types.specs.Operators.{working_type, applied_operator, step_operator}
 use Rattle.cc_types.specs.Types.{value_type, target_type}
-use Rattle.cc_resolve.specs.Layout.{Layout, callee}
-use Rattle.cc_resolve.specs.Environment.{Environment, number_in, types_in, inner, with_local, behind, behind_beginning}
-use Rattle.cc_resolve.specs.declared.layout.Callee.{Callee}
-use Rattle.cc_resolve.specs.declared.layout.Callee.TheVariants.{WriteWord, ReadWord, Defined}
-use Rattle.cc_cminor.specs.Cminor.{Expression, Constant, Local, Load, Statement, Skip, Set, Store, Sequence, If, Block, Exit, Return}
-use Rattle.cc_cminor.specs.Code.{in_sequence}
+use Rattle.cc_layout.specs.Layout.{Layout, callee}
+use Rattle.cc_layout.specs.Environment.{Environment, number_in, types_in, inner, with_local, behind, behind_beginning}
+use Rattle.cc_layout.specs.declared.layout.Callee.{Callee}
+use Rattle.cc_layout.specs.declared.layout.Callee.TheVariants.{WriteWord, ReadWord, Defined}
+use Rattle.cc_cminor_language.specs.Cminor.{Expression, Constant, Local, Load, Statement, Skip, Set, Store, Sequence, If, Block, Exit, Return}
+use Rattle.cc_cminor_language.specs.Code.{in_sequence}
 use Rattle.cc_cminor.specs.internal.Lowering.{free, object_of, width_of, variable_of, variable_set, write_to, unary_of, binary_of, truth_of, condition, is_reversed, branch, Kind, Conjunction, Disjunction, Strict, kind, is_plain, are_plain, plain, all_plain, used, count, locals_from, invoked, called_on, connected, put_expr, put_all, using, using_or, combined, assigned, performed, performed_optional, initialised, declared_code, started, leaving, lowered, all_lowered, body_code}
-use Rattle.cc_cminor.specs.Exits.{ExitsFit}
+use Rattle.cc_cminor_language.specs.Exits.{ExitsFit}
 
 -- a statement in a loop is inside two blocks
 abbrev InLoop : Bool → ℕ → Type 0

@@ -14,11 +14,11 @@ use Rattle.cc_types.specs.Operators.{working_type, applied_operator, step_operat
 use Rattle.cc_types.specs.Types.{value_type, target_type}
 use Rattle.cc_types.specs.Rules.{count_of}
 use Rattle.cc_types.specs.Limits.{declared_names, beginning_names, locals_of, locals}
-use Rattle.cc_resolve.specs.Layout.{Layout, LaidObject, object_number, callee}
-use Rattle.cc_resolve.specs.Environment.{Environment, number_in, types_in, inner, with_local, with_locals, behind, behind_beginning, parameter_names}
+use Rattle.cc_layout.specs.Layout.{Layout, LaidObject, object_number, callee}
+use Rattle.cc_layout.specs.Environment.{Environment, number_in, types_in, inner, with_local, with_locals, behind, behind_beginning, parameter_names}
 use Rattle.cc_resolve.specs.Operations.{operation, unary_operation}
-use Rattle.cc_resolve.specs.declared.layout.Callee.{Callee}
-use Rattle.cc_resolve.specs.declared.layout.Callee.TheVariants.{WriteWord, ReadWord, Defined}
+use Rattle.cc_layout.specs.declared.layout.Callee.{Callee}
+use Rattle.cc_layout.specs.declared.layout.Callee.TheVariants.{WriteWord, ReadWord, Defined}
 use Rattle.cc_resolve.specs.declared.operations.UnaryOperation.{UnaryOperation}
 use Rattle.cc_resolve.specs.declared.operations.UnaryOperation.TheVariants as single
 use Rattle.cc_resolve.specs.declared.operations.BinaryOperation.{BinaryOperation}
@@ -27,9 +27,9 @@ use Rattle.cc_c_semantics.specs.Resolved.{arities, IsCalled, ExprResolved, Exprs
 use Rattle.cc_words.specs.declared.operators.Unary.TheVariants as one
 use Rattle.cc_words.specs.declared.operators.Binary as binary
 use Rattle.cc_words.specs.declared.operators.Binary.TheVariants as two
-use Rattle.cc_cminor.specs.Cminor.{Expression, Constant, Local, Unary, Binary, Load, Statement, Skip, Set, Store, Sequence, If, Loop, Block, Exit, Return}
-use Rattle.cc_cminor.specs.Code.{in_sequence}
-use Rattle.cc_cminor.specs.Numbers.{ExpressionBelow, ExpressionsBelow, StatementBelow}
+use Rattle.cc_cminor_language.specs.Cminor.{Expression, Constant, Local, Unary, Binary, Load, Statement, Skip, Set, Store, Sequence, If, Loop, Block, Exit, Return}
+use Rattle.cc_cminor_language.specs.Code.{in_sequence}
+use Rattle.cc_cminor_language.specs.Numbers.{ExpressionBelow, ExpressionsBelow, StatementBelow}
 use Rattle.cc_cminor.specs.internal.Lowering.{free, object_of, width_of, read_of, write_to, variable_of, variable_set, single_or, unary_of, operation_of, binary_of, is_truth, truth_of, is_nothing, is_constant, compared, condition, is_reversed, branch, Kind, Conjunction, Disjunction, Strict, kind, is_plain, are_plain, plain, all_plain, used, count, locals_from, last_value, invoked, called_on, connected, put_expr, put_all, using, using_or, combined, assigned, performed, performed_optional, initialised, declared_code, started, leaving, lowered, all_lowered, body_code}
 use Rattle.cc_cminor.proofs.Known.{behind_layout, beginning_layout}
 use Rattle.cc_cminor.proofs.Tokens.{tokens, tokens_all, tokens_or, target_tokens, action_tokens, optional_tokens}

@@ -6,10 +6,10 @@ use Rattle.cc_tokens.specs.declared.scalar.Scalar.{Scalar}
 use Rattle.cc_ast.specs.Tree as tree
 use Rattle.cc_ast.specs.Tree.{Expr, Exprs, none, more, Number, Variable, Element, Parenthesised, Unary, Cast, Binary, Conditional, Target, AtVariable, AtElement, Action, Assign, Step, Evaluate, Declarator, Beginning, Declares, Performs, Stmt, Stmts, end, next, Block, Perform, Return, Break, Continue, If, IfElse, While, DoWhile, For}
 use Rattle.cc_types.specs.Rules.{count_of}
-use Rattle.cc_resolve.specs.Layout.{Layout, object_number, extent_of, callee}
-use Rattle.cc_resolve.specs.Environment.{Environment, number_in, inner, with_local, with_locals, behind, behind_beginning}
-use Rattle.cc_resolve.specs.declared.layout.Callee.{Callee}
-use Rattle.cc_resolve.specs.declared.layout.Callee.TheVariants.{WriteWord, ReadWord, Defined}
+use Rattle.cc_layout.specs.Layout.{Layout, object_number, extent_of, callee}
+use Rattle.cc_layout.specs.Environment.{Environment, number_in, inner, with_local, with_locals, behind, behind_beginning}
+use Rattle.cc_layout.specs.declared.layout.Callee.{Callee}
+use Rattle.cc_layout.specs.declared.layout.Callee.TheVariants.{WriteWord, ReadWord, Defined}
 use Rattle.cc_cminor.specs.internal.Lowering.{count}
 use Rattle.cc_c_semantics.specs.Resolved as resolved
 

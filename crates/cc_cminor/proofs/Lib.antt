@@ -34,8 +34,6 @@ pub mod PerformedActions
 pub mod LoweredStatements
 -- the code of a function keeps up with its body
 pub mod Bodies
--- Cminor is a layer
-pub mod Layer
 -- each call has its function's number of arguments
 pub mod LoweredCalls
 -- the least number of tokens that spell a tree
@@ -56,14 +54,12 @@ pub mod Exits
 pub mod Operations
 -- what a pair guarantees
 pub mod Pairs
--- the Cminor that the code's functions build
-pub mod Codes
--- a sequence uses the same variables as the list of its statements
-pub mod Counting
 -- the end of a scope
 pub mod Closing
 -- the value of an expression from its parts
 pub mod Taking
+-- the last value of a list that grew
+pub mod Lasts
 -- the trees of calls and blocks
 pub mod Trees
 -- declarations and statements, one by one

@@ -11,7 +11,7 @@ use Rattle.cc_types.specs.Limits.{most_words, too_many, past, parameter_excesses
 use Rattle.cc_types.specs.Typed.{IsTyped, IsWithinLimits, definitions}
 use Rattle.cc_types.specs.declared.rule.RuleError.{RuleError}
 use Rattle.cc_types.specs.declared.rule.Rule.TheVariants.{WrongKind, WrongCount}
-use Rattle.cc_resolve.specs.Layout.{laid_from}
+use Rattle.cc_layout.specs.Layout.{laid_from}
 
 -- ---- empty lists
 

@@ -3,9 +3,9 @@ use Rattle.std.proofs.Common.{◌≡◌, ℕ, suc, ◌+◌, arith, ◌++◌, Boo
 use Rattle.std.proofs.lemmas.List.{append_assoc}
 use Rattle.cc_tokens.specs.declared.scalar.Scalar.{Scalar}
 use Rattle.cc_ast.specs.Tree.{Expr, Declarator, Beginning, Action, Stmt, Stmts, next, For}
-use Rattle.cc_resolve.specs.Layout.{Layout}
-use Rattle.cc_resolve.specs.Environment.{Environment, inner, with_locals, behind, behind_beginning}
-use Rattle.cc_cminor.specs.Cminor.{Statement, Set, Sequence, Block, Loop, Exit}
+use Rattle.cc_layout.specs.Layout.{Layout}
+use Rattle.cc_layout.specs.Environment.{Environment, inner, with_locals, behind, behind_beginning}
+use Rattle.cc_cminor_language.specs.Cminor.{Statement, Set, Sequence, Block, Loop, Exit}
 use Rattle.cc_cminor.specs.internal.Lowering.{branch, free, using, declared_code, started, performed_optional, lowered, all_lowered, behind_all}
 use Rattle.cc_cminor.specs.internal.Taken.{Taken, taken, taken_or, behind_code}
 use Rattle.cc_cminor.proofs.Closing.{same-layout, in-beginning}

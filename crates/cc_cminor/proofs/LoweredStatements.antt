@@ -6,13 +6,13 @@ use Rattle.cc_types.specs.Scope as scope
 use Rattle.cc_types.specs.Scope.{Visible, in_scope, opened, scope_behind, scope_behind_beginning}
 use Rattle.cc_ast.specs.Tree as tree
 use Rattle.cc_ast.specs.Tree.{Name, Expr, Action, Declarator, Beginning, Declares, Performs, Stmt, Stmts, end, next, Perform, Break, Continue, IfElse, While, DoWhile, For}
-use Rattle.cc_resolve.specs.Layout.{Layout}
-use Rattle.cc_resolve.specs.Environment.{Environment, types_in, inner, with_local, with_locals, behind, behind_beginning}
+use Rattle.cc_layout.specs.Layout.{Layout}
+use Rattle.cc_layout.specs.Environment.{Environment, types_in, inner, with_local, with_locals, behind, behind_beginning}
 use Rattle.cc_c_semantics.specs.Meaning as meaning
 use Rattle.cc_c_semantics.specs.Meaning.{State, Run, Gives, Flow, Falls, Breaks, Continues, Returns, then_do, choose, evaluate, evaluate_or, perform_optional, start, spend_of, behind_flow, behind_body, begin_body, turns, left_scope, in_block, execute, execute_all}
 use Rattle.cc_simulation.specs.Run.{tried, Returns as Ret}
-use Rattle.cc_cminor.specs.Cminor.{Expression, Constant, value, Statement, Skip, Sequence, Loop, Block, Exit, Return, Continuation, Then, Again, Leaving, Config, config}
-use Rattle.cc_cminor.specs.Code.{in_sequence}
+use Rattle.cc_cminor_language.specs.Cminor.{Expression, Constant, value, Statement, Skip, Sequence, Loop, Block, Exit, Return, Continuation, Then, Again, Leaving, Config, config}
+use Rattle.cc_cminor_language.specs.Code.{in_sequence}
 use Rattle.cc_cminor.specs.internal.Lowering.{branch, free, using, using_or, performed_optional, started, declared_code, looped, tested, lowered, all_lowered}
 use Rattle.cc_cminor.proofs.Known.{Known, KnownOr, KnownIn, AllKnownIn}
 use Rattle.cc_cminor.proofs.Paths.{world_at, after_list, Calling, cut_here, one_paid, Comes, comes_after, comes_moved, comes_then, comes_as, comes_here, comes_first, comes_next, comes_exit}

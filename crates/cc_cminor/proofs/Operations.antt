@@ -9,11 +9,11 @@ use Rattle.cc_types.specs.Operators.{working_type, applied_operator, step_operat
 use Rattle.cc_types.specs.Types.{value_type, target_type}
 use Rattle.cc_ast.specs.Tree as tree
 use Rattle.cc_ast.specs.Tree.{Expr, Exprs, none, more, Number, Variable, Element, Parenthesised, Cast, Conditional, Target, AtVariable, AtElement, Action, Assign, Step, Evaluate, Declarator, Beginning, Declares, Performs, Stmt, Stmts, end, next, Perform, Break, Continue, IfElse, While, DoWhile, For}
-use Rattle.cc_resolve.specs.Layout.{Layout, callee}
-use Rattle.cc_resolve.specs.Environment.{Environment, number_in, types_in, inner, with_local, behind, behind_beginning}
+use Rattle.cc_layout.specs.Layout.{Layout, callee}
+use Rattle.cc_layout.specs.Environment.{Environment, number_in, types_in, inner, with_local, behind, behind_beginning}
 use Rattle.cc_resolve.specs.Operations.{operation, unary_operation}
-use Rattle.cc_resolve.specs.declared.layout.Callee.{Callee}
-use Rattle.cc_resolve.specs.declared.layout.Callee.TheVariants.{WriteWord, ReadWord, Defined}
+use Rattle.cc_layout.specs.declared.layout.Callee.{Callee}
+use Rattle.cc_layout.specs.declared.layout.Callee.TheVariants.{WriteWord, ReadWord, Defined}
 use Rattle.cc_resolve.specs.declared.operations.UnaryOperation.{UnaryOperation}
 use Rattle.cc_resolve.specs.declared.operations.UnaryOperation.TheVariants as single
 use Rattle.cc_resolve.specs.declared.operations.BinaryOperation.{BinaryOperation}
@@ -21,11 +21,11 @@ use Rattle.cc_resolve.specs.declared.operations.BinaryOperation.TheVariants as w
 use Rattle.cc_words.specs.declared.operators.Unary.TheVariants as one
 use Rattle.cc_words.specs.declared.operators.Binary as binary
 use Rattle.cc_words.specs.declared.operators.Binary.TheVariants as two
-use Rattle.cc_cminor.specs.Cminor.{Expression, Constant, Local, Unary, Binary, Load, Statement, Skip, Set, Store, Sequence, If, Block, Exit, Return}
-use Rattle.cc_cminor.specs.Code.{in_sequence}
+use Rattle.cc_cminor_language.specs.Cminor.{Expression, Constant, Local, Unary, Binary, Load, Statement, Skip, Set, Store, Sequence, If, Block, Exit, Return}
+use Rattle.cc_cminor_language.specs.Code.{in_sequence}
 use Rattle.cc_cminor.specs.internal.Lowering.{free, object_of, width_of, read_of, write_to, variable_of, variable_set, single_or, unary_of, operation_of, binary_of, is_truth, truth_of, is_nothing, is_constant, compared, condition, is_reversed, branch, Kind, Conjunction, Disjunction, Strict, kind, is_plain, are_plain, plain, all_plain, used, count, locals_from, last_value, invoked, called_on, connected, put_expr, put_all, using, using_or, combined, assigned, performed, performed_optional, initialised, declared_code, started, leaving, lowered, all_lowered, body_code}
 use Rattle.cc_cminor.proofs.Tokens.{tokens, tokens_all, tokens_or, target_tokens, action_tokens, optional_tokens, declared_tokens, beginning_tokens, statement_tokens, statements_tokens}
-use Rattle.cc_cminor.specs.Size.{partial, partials, all_partials, code_partials}
+use Rattle.cc_cminor_language.specs.Size.{partial, partials, all_partials, code_partials}
 
 read_ops : (o : Option ℕ) (n : ℕ) → partials (read_of o n) ≤ 1
 read_ops None n = omega arith

@@ -7,18 +7,18 @@ use Rattle.cc_ast.specs.Grammar.{SpellsExternal}
 use Rattle.cc_ast.specs.Parse.{SpellsText}
 use Rattle.cc_types.specs.Limits.{locals, function_names}
 use Rattle.cc_types.specs.Typed.{IsTyped, IsWithinLimits, defined_names}
-use Rattle.cc_resolve.specs.Layout.{layout_of}
+use Rattle.cc_layout.specs.Layout.{layout_of}
 use Rattle.cc_c_semantics.specs.Meaning.{Function, functions}
 use Rattle.cc_c_semantics.specs.Calls.{CallsAreEffects, CallsKeepObjects, FunctionsAreNumbered, ObjectsAreNumbered, ObjectsAreSized}
 use Rattle.cc_c_semantics.specs.declared.mode.Mode.{Mode}
 use Rattle.cc_c_semantics.specs.declared.mode.Mode.TheVariants.{Plain}
 use Rattle.cc_c_semantics.specs.Numbered.{CallsAreNumbered}
 use Rattle.cc_c_semantics.specs.Resolved.{arities, FunctionsAreResolved}
-use Rattle.cc_cminor.specs.Cminor.{Statement}
-use Rattle.cc_cminor.specs.Pair.{Pair, tree_of, code_of, AreCalls, KeepsUp, FailsAlike, GoesWrong, IsPair}
-use Rattle.cc_cminor.specs.Numbers.{most_variables, most_lowered, StatementBelow, StatementFits}
-use Rattle.cc_cminor.specs.Exits.{ExitsFit}
-use Rattle.cc_cminor.specs.Size.{statement_size, code_partials, AtMostTwelveAToken, AtMostOnePartialAToken}
+use Rattle.cc_cminor_language.specs.Cminor.{Statement}
+use Rattle.cc_cminor_language.specs.Pair.{Pair, tree_of, code_of, AreCalls, KeepsUp, FailsAlike, GoesWrong, IsPair}
+use Rattle.cc_cminor_language.specs.Numbers.{most_variables, most_lowered, StatementBelow, StatementFits}
+use Rattle.cc_cminor_language.specs.Exits.{ExitsFit}
+use Rattle.cc_cminor_language.specs.Size.{statement_size, code_partials, AtMostTwelveAToken, AtMostOnePartialAToken}
 use Rattle.cc_cminor.specs.internal.Lowering.{body_code}
 use Rattle.cc_cminor.specs.internal.Lowered.{IsLowered}
 use Rattle.cc_cminor.proofs.LoweredCalls.{body_calls}

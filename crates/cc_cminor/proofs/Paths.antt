@@ -10,9 +10,9 @@ use Rattle.cc_simulation.specs.World as world
 use Rattle.cc_simulation.specs.World.{Question, Answer, Effect}
 use Rattle.cc_simulation.specs.Run as layer
 use Rattle.cc_simulation.specs.Run.{Move, Goes, Calls, Fails, run, work, act, work_act, work_resumed}
-use Rattle.cc_cminor.specs.Breaks.{broken, broken_act, broken_resumed}
-use Rattle.cc_cminor.specs.Cminor.{Statement, Skip, Sequence, Exit, Continuation, Then, Config, config, cminor_move, cminor_output}
-use Rattle.cc_cminor.specs.Code.{in_sequence}
+use Rattle.cc_cminor_language.specs.Breaks.{broken, broken_act, broken_resumed}
+use Rattle.cc_cminor_language.specs.Cminor.{Statement, Skip, Sequence, Exit, Continuation, Then, Config, config, cminor_move, cminor_output}
+use Rattle.cc_cminor_language.specs.Code.{in_sequence}
 
 -- what the functions share, by number
 abbrev pub world_at : State → world.World

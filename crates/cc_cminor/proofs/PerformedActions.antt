@@ -14,8 +14,8 @@ use Rattle.cc_types.specs.Operators.{binary_word, working_type, applied_operator
 use Rattle.cc_types.specs.Types.{value_type, target_type}
 use Rattle.cc_ast.specs.Tree.{Expr, Target, AtVariable, AtElement, Action, Assign, Step, Evaluate, Declarator, Beginning, Declares, Performs}
 use Rattle.cc_types.specs.Names.{same_name}
-use Rattle.cc_resolve.specs.Layout.{Layout}
-use Rattle.cc_resolve.specs.Environment.{Environment, types_in, number_in, with_local, with_locals, behind_beginning}
+use Rattle.cc_layout.specs.Layout.{Layout}
+use Rattle.cc_layout.specs.Environment.{Environment, types_in, number_in, with_local, with_locals, behind_beginning}
 use Rattle.cc_c_semantics.specs.Meaning as meaning
 use Rattle.cc_c_semantics.specs.Calls.{NamedSize, size, sizes, laid_sizes}
 use Rattle.cc_c_semantics.specs.Checked.{stays}
@@ -26,8 +26,8 @@ use Rattle.cc_simulation.specs.Run.{Goes, Fails, tried}
 use Rattle.cc_words.specs.Widths.{kept}
 use Rattle.cc_words.specs.declared.operators.Width.{Width}
 use Rattle.cc_words.specs.declared.operators.Width.TheVariants.{Word}
-use Rattle.cc_cminor.specs.Cminor.{Expression, Constant, Local, Load, then_value, value, put, Statement, Skip, Set, Store, Sequence, Continuation, Then, Config, config, moves}
-use Rattle.cc_cminor.specs.Code.{in_sequence}
+use Rattle.cc_cminor_language.specs.Cminor.{Expression, Constant, Local, Load, then_value, value, put, Statement, Skip, Set, Store, Sequence, Continuation, Then, Config, config, moves}
+use Rattle.cc_cminor_language.specs.Code.{in_sequence}
 use Rattle.cc_cminor.specs.internal.Lowering.{free, object_of, width_of, variable_of, write_to, variable_set, kind, Strict, is_plain, plain, put_expr, using, using_or, combined, assigned, performed, performed_optional, initialised, declared_code, started}
 use Rattle.cc_cminor.proofs.Known.{IsObject, IsPlaced, IsVariable, Known, KnownOr, KnownTarget, KnownAction, KnownOptional, KnownDeclared, KnownBeginning}
 use Rattle.cc_cminor.proofs.Paths.{world_at, after_list, Calling, stuck_here, Comes, comes_moved, comes_then, comes_here, comes_first, comes_next}

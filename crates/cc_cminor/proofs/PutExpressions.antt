@@ -9,10 +9,10 @@ use Rattle.cc_types.specs.Types.{value_type}
 use Rattle.cc_words.specs.Words.{truth_value}
 use Rattle.cc_ast.specs.Tree as tree
 use Rattle.cc_ast.specs.Tree.{Name, Expr, Exprs, none, more, Number, Variable, Element, Parenthesised, Cast, Conditional}
-use Rattle.cc_resolve.specs.Layout.{Layout, callee}
-use Rattle.cc_resolve.specs.Environment.{Environment, types_in}
-use Rattle.cc_resolve.specs.declared.layout.Callee.{Callee}
-use Rattle.cc_resolve.specs.declared.layout.Callee.TheVariants.{WriteWord, ReadWord, Defined}
+use Rattle.cc_layout.specs.Layout.{Layout, callee}
+use Rattle.cc_layout.specs.Environment.{Environment, types_in}
+use Rattle.cc_layout.specs.declared.layout.Callee.{Callee}
+use Rattle.cc_layout.specs.declared.layout.Callee.TheVariants.{WriteWord, ReadWord, Defined}
 use Rattle.cc_c_semantics.specs.Meaning as meaning
 use Rattle.cc_c_semantics.specs.Meaning.{State, Run, Gives, then_do, choose, given, unless_decided, read_element, read_input, evaluate, evaluate_all, variable_word}
 use Rattle.cc_c_semantics.specs.Function as by_name
@@ -23,8 +23,8 @@ use Rattle.cc_simulation.specs.World as world
 use Rattle.cc_simulation.specs.World.{World, Question, Answer, Effect, first_or_zero, rest_of}
 use Rattle.cc_simulation.specs.Run as layer
 use Rattle.cc_simulation.specs.Run.{Move, Goes, Calls, Fails, tried, run, work, act, work_act, work_resumed}
-use Rattle.cc_cminor.specs.Cminor.{Expression, Constant, Local, Load, then_value, value, values, put, Statement, Skip, Set, Call, Read, Write, Sequence, Continuation, Then, Config, config, moves, cminor_move}
-use Rattle.cc_cminor.specs.Code.{in_sequence}
+use Rattle.cc_cminor_language.specs.Cminor.{Expression, Constant, Local, Load, then_value, value, values, put, Statement, Skip, Set, Call, Read, Write, Sequence, Continuation, Then, Config, config, moves, cminor_move}
+use Rattle.cc_cminor_language.specs.Code.{in_sequence}
 use Rattle.cc_cminor.specs.internal.Lowering.{branch, free, object_of, width_of, variable_of, unary_of, truth_of, binary_of, Kind, Conjunction, Disjunction, Strict, kind, is_strict, is_plain, are_plain, plain, all_plain, used, called_on, count, locals_from, last_value, invoked, connected, put_expr, put_all}
 use Rattle.cc_cminor.proofs.Known.{IsCalled, Known, AllKnown}
 use Rattle.cc_cminor.proofs.Paths.{world_at, Exact, Calling, Cut, one_call, Stuck, stuck_moved, stuck_here, Comes, comes_moved, comes_then, comes_as, comes_here, after_list, comes_first, comes_next, runs, works}

@@ -8,10 +8,10 @@ use Rattle.cc_ast.specs.Tree as tree
 use Rattle.cc_ast.specs.Tree.{Name, Expr, Exprs, none, more, Number, Variable, Element, Parenthesised, Cast, Conditional, Target, AtVariable, AtElement, Assign, Step, Evaluate}
 use Rattle.cc_types.specs.Operators.{working_type}
 use Rattle.cc_types.specs.Types.{value_type}
-use Rattle.cc_resolve.specs.Layout.{Layout, callee}
-use Rattle.cc_resolve.specs.Environment.{Environment, types_in}
-use Rattle.cc_cminor.specs.Cminor.{Expression, Local, Load, Statement, Set, Sequence}
-use Rattle.cc_cminor.specs.Code.{in_sequence}
+use Rattle.cc_layout.specs.Layout.{Layout, callee}
+use Rattle.cc_layout.specs.Environment.{Environment, types_in}
+use Rattle.cc_cminor_language.specs.Cminor.{Expression, Local, Load, Statement, Set, Sequence}
+use Rattle.cc_cminor_language.specs.Code.{in_sequence}
 use Rattle.cc_cminor.specs.internal.Lowering.{branch, object_of, width_of, binary_of, unary_of, Kind, Conjunction, Disjunction, Strict, kind, is_strict, is_plain, are_plain, plain, all_plain, used, called_on, count, locals_from, invoked, connected, put_expr, put_all, using, using_or}
 use Rattle.cc_cminor.specs.internal.Taken.{Taken, taken_as, taken, taken_or, waiting, behind_code, put_in, right_from, joined, conditionally}
 

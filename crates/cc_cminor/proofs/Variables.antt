@@ -26,13 +26,13 @@ use Rattle.cc_c_semantics.specs.Meaning.{Global, State, Run, Gives, then_do, giv
 use Rattle.cc_c_semantics.specs.Calls.{NamedSize, sizes, laid_sizes}
 use Rattle.cc_c_semantics.specs.Numbered.{objects_of}
 use Rattle.cc_simulation.specs.World.{Object, World, element, object_with, stored}
-use Rattle.cc_resolve.specs.Layout.{LaidObject, Layout, object_number, extent_of}
-use Rattle.cc_resolve.specs.Environment.{Environment, types_in, number_in}
+use Rattle.cc_layout.specs.Layout.{LaidObject, Layout, object_number, extent_of}
+use Rattle.cc_layout.specs.Environment.{Environment, types_in, number_in}
 use Rattle.cc_resolve.specs.Operations.{operation}
 use Rattle.cc_words.specs.declared.operators.Width.{Width}
 use Rattle.cc_words.specs.declared.operators.Width.TheVariants.{Byte, Word}
 use Rattle.cc_words.specs.Widths.{same_width, kept}
-use Rattle.cc_cminor.specs.Cminor.{Expression, Constant, Local, Unary, Binary, Load, then_value, value, values, put}
+use Rattle.cc_cminor_language.specs.Cminor.{Expression, Constant, Local, Unary, Binary, Load, then_value, value, values, put}
 use Rattle.cc_cminor.specs.internal.Lowering.{object_of, width_of, read_of, variable_of, unary_of, binary_of, is_zero_test, is_comparison, is_truth, truth_of, Kind, Strict, Conjunction, Disjunction, kind, is_strict, is_plain, are_plain, plain, all_plain}
 use Rattle.cc_cminor.proofs.Known.{IsObject, IsPlaced, IsVariable, Known, AllKnown}
 use Rattle.cc_cminor.proofs.Paths.{world_at}

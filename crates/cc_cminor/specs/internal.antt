@@ -1,6 +1,4 @@
 -- Definitions that only private contracts and proofs use.
--- the code of a list of statements
-pub mod Statements
 -- how a body becomes Cminor
 pub mod Lowering
 -- the code of a resolved function

@@ -3,15 +3,14 @@
 ghost use Rattle.std.specs.Prelude.{◌≡◌, IfOk};
 ghost use Rattle.cc_types.specs.Scope.{found};
 ghost use Rattle.cc_types.specs.Types.{variable_type, element_type};
-ghost use Rattle.cc_resolve.specs.Environment.{types_in};
-ghost use Rattle.cc_cminor.specs.Cminor as cminor;
-ghost use Rattle.cc_cminor.specs.Code.{expression_of, statement_of};
+ghost use Rattle.cc_layout.specs.Environment.{types_in};
+ghost use Rattle.cc_cminor_language.specs.Cminor as cminor;
+ghost use Rattle.cc_cminor_language.specs.Code.{expression_of, statement_of};
 ghost use Rattle.cc_cminor.specs.internal.Lowering.{object_of, width_of, variable_of, variable_set};
 ghost use Rattle.cc_cminor.specs.internal.Taken.{code_before, taken_of, at_once, kept};
 
-use super::boxes::{boxed_expression, boxed_statement, constant};
-use super::code::{Expression, Statement};
 use super::taken::{Taken, at_once, kept};
+use cc_cminor_language::{Expression, Statement, boxed_expression, boxed_statement, constant};
 use cc_resolve::Environment;
 use cc_words::Width;
 use std::alloc::{AllocError, Global};

@@ -7,17 +7,18 @@
 ghost use Rattle.std.specs.Prelude.{◌≡◌, IfOk};
 ghost use Rattle.cc_ast.specs.Tree as tree;
 ghost use Rattle.cc_ast.specs.Erase.{name_tree, target_tree, action_tree, optional_action};
-ghost use Rattle.cc_cminor.specs.Code.{expression_of, statement_of};
+ghost use Rattle.cc_cminor_language.specs.Code.{expression_of, statement_of};
 ghost use Rattle.cc_cminor.specs.internal.Lowering.{combined, performed, performed_optional};
 ghost use Rattle.cc_cminor.specs.internal.Taken.{code_before, behind_code, above_target, element_set, assigned_to};
 
 use super::access::{object, read_variable, set_variable, width};
-use super::boxes::{above, both, boxed_expression, boxed_statement, local};
-use super::code::{Expression, Statement};
 use super::expressions::{put, value};
 use super::operators::binary;
 use super::taken::{Taken, behind, word};
 use cc_ast::{Action, BinaryOperator, Identifier, Scalar, Target};
+use cc_cminor_language::{
+    Expression, Statement, above, both, boxed_expression, boxed_statement, local,
+};
 use cc_resolve::Environment;
 use cc_types::{applied_operator, step_operator, working_type};
 use std::alloc::{AllocError, Global};

@@ -4,12 +4,11 @@
 // same cases. A word that is 0 in exactly the other cases will also do, with the two branches exchanged.
 
 ghost use Rattle.std.specs.Prelude.{◌≡◌, if◌then◌else◌, IfOk};
-ghost use Rattle.cc_cminor.specs.Cminor as cminor;
-ghost use Rattle.cc_cminor.specs.Code.{expression_of, statement_of};
+ghost use Rattle.cc_cminor_language.specs.Cminor as cminor;
+ghost use Rattle.cc_cminor_language.specs.Code.{expression_of, statement_of};
 ghost use Rattle.cc_cminor.specs.internal.Lowering.{is_nothing, is_constant, different, compared, is_opposite, condition, is_reversed, branch};
 
-use super::boxes::{boxed_expression, boxed_statement};
-use super::code::{Expression, Statement};
+use cc_cminor_language::{Expression, Statement, boxed_expression, boxed_statement};
 use cc_words::{Binary, Unary};
 use std::alloc::{AllocError, Global};
 

@@ -9,22 +9,24 @@ ghost use Rattle.cc_ast.specs.Tree as tree;
 ghost use Rattle.cc_ast.specs.Erase.{expression_tree, name_tree, optional_tree};
 ghost use Rattle.cc_ast.specs.internal.Arguments.{expressions_of};
 ghost use Rattle.cc_types.specs.Types.{value_type};
-ghost use Rattle.cc_resolve.specs.Environment.{types_in};
-ghost use Rattle.cc_cminor.specs.Cminor as cminor;
-ghost use Rattle.cc_cminor.specs.Code as code;
-ghost use Rattle.cc_cminor.specs.Code.{expression_of, statement_of, in_sequence};
+ghost use Rattle.cc_layout.specs.Environment.{types_in};
+ghost use Rattle.cc_cminor_language.specs.Cminor as cminor;
+ghost use Rattle.cc_cminor_language.specs.Code as code;
+ghost use Rattle.cc_cminor_language.specs.Code.{expression_of, statement_of, in_sequence};
 ghost use Rattle.cc_cminor.specs.internal.Lowering.{is_plain, are_plain, all_plain, put_expr, put_all, locals_from, last_value, invoked};
 ghost use Rattle.cc_cminor.specs.internal.Taken.{taken_of, taken, taken_or};
 
 use super::access::{element, variable};
-use super::boxes::{above, both, boxed_expression, boxed_statement, constant, sequence, set};
-use super::code::{Expression, Statement};
 use super::taken::{
     Taken, alone, conditionally, converted, is_strict, joined, operated, put_in, right_from,
     waiting, word,
 };
 use cc_ast::{Expression as Tree, Identifier, Scalar};
-use cc_resolve::{Callee, Environment};
+use cc_cminor_language::{
+    Expression, Statement, above, both, boxed_expression, boxed_statement, constant, sequence, set,
+};
+use cc_layout::Callee;
+use cc_resolve::Environment;
 use std::alloc::{AllocError, Global};
 
 // ---- plain expressions

@@ -8,20 +8,19 @@ ghost use Rattle.std.specs.Arc.{arc_value};
 ghost use Rattle.cc_ast.specs.Source.{source};
 ghost use Rattle.cc_types.specs.Typed.{defined_names};
 ghost use Rattle.cc_c_semantics.specs.declared.mode.Mode.TheVariants.{Plain};
-ghost use Rattle.cc_cminor.specs.Code.{statement_of};
-ghost use Rattle.cc_cminor.specs.Pair.{tree_of, code_of, FailsAlike, GoesWrong};
-ghost use Rattle.cc_cminor.specs.Exits.{ExitsFit};
-ghost use Rattle.cc_cminor.specs.Numbers.{most_lowered, StatementBelow};
-ghost use Rattle.cc_cminor.specs.Size.{AtMostTwelveAToken, AtMostOnePartialAToken};
+ghost use Rattle.cc_cminor_language.specs.Code.{statement_of};
+ghost use Rattle.cc_cminor_language.specs.Pair.{tree_of, code_of, FailsAlike, GoesWrong};
+ghost use Rattle.cc_cminor_language.specs.Exits.{ExitsFit};
+ghost use Rattle.cc_cminor_language.specs.Numbers.{most_lowered, StatementBelow};
+ghost use Rattle.cc_cminor_language.specs.Size.{AtMostTwelveAToken, AtMostOnePartialAToken};
 ghost use Rattle.cc_cminor.specs.internal.Lowered.{IsLowered};
 
-use super::code::Statement;
-use super::pair::CminorPair;
 use super::statements::body;
 use cc_c_semantics::{
     Mode, calls_are_effects, calls_keep_objects, functions_are_resolved, names_have_numbers,
     units_have_meanings,
 };
+use cc_cminor_language::{CminorPair, Statement};
 use cc_resolve::function_environment;
 use cc_types::TypedUnit;
 use std::alloc::{AllocError, Global};

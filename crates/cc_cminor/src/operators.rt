@@ -1,14 +1,13 @@
 // The operators of C as operators of Cminor, depending on the type in which they work.
 
 ghost use Rattle.std.specs.Prelude.{◌≡◌, IfOk};
-ghost use Rattle.cc_cminor.specs.Cminor as cminor;
-ghost use Rattle.cc_cminor.specs.Code.{expression_of};
+ghost use Rattle.cc_cminor_language.specs.Cminor as cminor;
+ghost use Rattle.cc_cminor_language.specs.Code.{expression_of};
 ghost use Rattle.cc_cminor.specs.internal.Taken.{in_order};
 ghost use Rattle.cc_cminor.specs.internal.Lowering.{single_of, unary_of, operation_of, binary_of, is_comparison, is_truth, truth_of};
 
-use super::boxes::boxed_expression;
-use super::code::Expression;
 use cc_ast::{BinaryOperator, Scalar, UnaryOperator};
+use cc_cminor_language::{Expression, boxed_expression};
 use cc_resolve::{BinaryOperation, UnaryOperation, operation, unary_operation};
 use cc_words::{Binary, Unary};
 use std::alloc::{AllocError, Global};

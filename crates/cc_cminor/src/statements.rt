@@ -7,22 +7,21 @@
 ghost use Rattle.std.specs.Prelude.{◌≡◌, ◌≤◌, ◌-◌, ◌++◌, true, length, drop, IfOk, OnOk};
 ghost use Rattle.cc_ast.specs.Tree as tree;
 ghost use Rattle.cc_ast.specs.Erase.{optional_tree, optional_action, declarator_tree, declarator_trees, beginning_tree, statement_tree, statements_of};
-ghost use Rattle.cc_types.specs.Bindings.{closed};
-ghost use Rattle.cc_resolve.specs.Environment.{inner, behind, behind_beginning, with_local, with_locals};
-ghost use Rattle.cc_cminor.specs.Cminor as cminor;
-ghost use Rattle.cc_cminor.specs.internal.Statements as codes;
-ghost use Rattle.cc_cminor.specs.Code.{expression_of, statement_of, in_sequence};
+ghost use Rattle.cc_scope.specs.Bindings.{closed};
+ghost use Rattle.cc_layout.specs.Environment.{inner, behind, behind_beginning, with_local, with_locals};
+ghost use Rattle.cc_cminor_language.specs.Cminor as cminor;
+ghost use Rattle.cc_cminor_language.specs.Statements as codes;
+ghost use Rattle.cc_cminor_language.specs.Code.{expression_of, statement_of, in_sequence};
 ghost use Rattle.cc_cminor.specs.internal.Lowering.{branch, initialised, declarator_code, declared_code, started, leaving, lowered, all_lowered, behind_all, body_code};
 ghost use Rattle.cc_cminor.specs.internal.Taken.{code_before, behind_code};
 
 use super::actions::optional_action;
-use super::boxes::{above, both, boxed_statement, constant, sequence, set};
-use super::code::Statement;
 use super::expressions::{value, value_or};
 use super::taken::{Taken, behind, choice};
 use cc_ast::{
     Action, Beginning, Declarator, Expression as Tree, Scalar, Statement as TreeStatement,
 };
+use cc_cminor_language::{Statement, above, both, boxed_statement, constant, sequence, set};
 use cc_resolve::{Environment, declare_locals};
 use std::alloc::{AllocError, Global};
 

@@ -7,16 +7,15 @@
 
 ghost use Rattle.std.specs.Prelude.{◌≡◌, false, IfOk};
 ghost use Rattle.cc_types.specs.Operators.{binary_type, common_type, unary_type, working_type};
-ghost use Rattle.cc_cminor.specs.Cminor as cminor;
-ghost use Rattle.cc_cminor.specs.Code.{expression_of, statement_of};
+ghost use Rattle.cc_cminor_language.specs.Cminor as cminor;
+ghost use Rattle.cc_cminor_language.specs.Code.{expression_of, statement_of};
 ghost use Rattle.cc_cminor.specs.internal.Lowering.{is_strict, kind, unary_of, branch};
 ghost use Rattle.cc_cminor.specs.internal.Taken.{code_before, taken_of, at_once, waiting, behind_code, kept, put_in, strictly, decided, logically, right_from, joined, conditionally};
 
-use super::boxes::{above, both, constant, local, set};
-use super::code::{Expression, Statement};
 use super::conditions::branch;
 use super::operators::{binary, truth, unary};
 use cc_ast::{BinaryOperator, Scalar, UnaryOperator};
+use cc_cminor_language::{Expression, Statement, above, both, constant, local, set};
 use cc_types::{binary_type, common_type, unary_type, working_type};
 use std::alloc::{AllocError, Global};
 

@@ -1,7 +1,8 @@
 // The instructions into which a tree is translated for a second run; they work on a stack of words. Those that can go wrong
 // contain their places in the text.
 
-use cc_resolve::{Extent, UnaryOperation};
+use cc_layout::Extent;
+use cc_resolve::UnaryOperation;
 use cc_syntax::{BinaryOperator, Identifier};
 use cc_tokens::Scalar;
 

@@ -1,8 +1,8 @@
 // The names in scope, each with the place of its declaration and what it refers to.
 
-use cc_resolve::Extent;
+use cc_layout::Extent;
+use cc_scope::{Bindings, Entity, READ_WORD, WRITE_WORD};
 use cc_syntax_diagnostic::near_name;
-use cc_types::{Bindings, Entity, READ_WORD, WRITE_WORD};
 use std::alloc::{AllocError, Global};
 
 /// What a name refers to.

@@ -7,14 +7,13 @@ use super::constant::{Cause, why};
 use super::declarations::{Declaration, Declared, declarations, first_of, named_at};
 use super::names::Standing;
 use super::walk::{Note, Use, Walk};
+use cc_scope::Entity;
 use cc_syntax::{Object, Signature, Unit, parse};
 use cc_syntax_diagnostic::{
     Diagnostic, MessagePart, Related, message, near_keyword, offset_in, said_of_foreign, words,
 };
 use cc_tokens::{Place, SyntaxFault, place_at};
-use cc_types::{
-    Entity, MOST_FUNCTIONS, MOST_LOCALS, MOST_PARAMETERS, MOST_WORDS, TypeFault, array_length,
-};
+use cc_types::{MOST_FUNCTIONS, MOST_LOCALS, MOST_PARAMETERS, MOST_WORDS, TypeFault, array_length};
 use std::alloc::{AllocError, Global};
 
 /// A text with a fault: the fault's offset, the word there, what the walk noted about it, and all declarations at file scope.

@@ -7,7 +7,7 @@ use Rattle.cc_types.specs.Types.{object_elements, object_words}
 use Rattle.cc_types.specs.Limits.{objects, object_name, too_many, most_words, word_excesses, past, most_functions, function_names, externals_excesses}
 use Rattle.cc_types.specs.Typed.{IsTyped, IsWithinLimits}
 use Rattle.cc_types.specs.declared.rule.RuleError.{RuleError}
-use Rattle.cc_resolve.specs.Layout.{laid_from}
+use Rattle.cc_layout.specs.Layout.{laid_from}
 use Rattle.cc_c_semantics.specs.Meaning.{Global, initial_globals}
 use Rattle.cc_c_semantics.specs.Numbered.{objects_in, objects_of}
 use Rattle.cc_c_semantics.specs.Calls as calls

@@ -11,7 +11,7 @@ use Rattle.cc_words.specs.declared.operators.Binary.TheVariants.{Add, Sub, Mul, 
 use Rattle.cc_words.specs.Words.{truth_value, signed_value}
 use Rattle.cc_words.specs.Operators.{apply_binary}
 use Rattle.cc_simulation.specs.World.{World}
-use Rattle.cc_cminor.specs.Cminor.{Expression, Constant, Local, Unary, Binary, Load, Variables, value, then_value}
+use Rattle.cc_cminor_language.specs.Cminor.{Expression, Constant, Local, Unary, Binary, Load, Variables, value, then_value}
 use Rattle.cc_guard.specs.declared.known.Limit.{Limit}
 use Rattle.cc_guard.specs.Guard.{least, if_word, most_sum, most_product, below_divisor, most_if, most_in, most, is_below, is_divisor, is_signed_divisor, always, less_one, told_of, told_less, told_most, if_small, told, with_told}
 

@@ -6,8 +6,8 @@ use Rattle.cc_words.specs.declared.operators.Binary as two
 use Rattle.cc_words.specs.declared.operators.Binary.TheVariants.{Add, Sub, Mul, DivS, DivU, RemS, RemU, Shl, ShrS, ShrU, And, Or, Xor, Eq, Ne, LtS, LtU, LeS, LeU}
 use Rattle.cc_words.specs.declared.operators.Width.{Width}
 use Rattle.cc_simulation.specs.World.{Size}
-use Rattle.cc_cminor.specs.Cminor.{Expression, Constant, Local, Unary, Binary, Load, Statement, Skip, Set, Store, Call, Read, Write, Sequence, If, Loop, Block, Exit, Return}
-use Rattle.cc_cminor.specs.Size.{partial, partials, all_partials, code_partials}
+use Rattle.cc_cminor_language.specs.Cminor.{Expression, Constant, Local, Unary, Binary, Load, Statement, Skip, Set, Store, Call, Read, Write, Sequence, If, Loop, Block, Exit, Return}
+use Rattle.cc_cminor_language.specs.Size.{partial, partials, all_partials, code_partials}
 use Rattle.cc_guard.specs.declared.known.Limit.{Limit}
 use Rattle.cc_guard.specs.Guard.{Guarded, most, is_below, always, reads_left, elements_in, waits_as, waiting, waiting_if, with_binary, with_test, bounded, indexed, first_index, guarded, guarded_all, head, known_after, known_within, variables_after}
 use Rattle.cc_guard.specs.Laws.{GuardsSetFew}

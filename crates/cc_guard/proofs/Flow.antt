@@ -8,7 +8,7 @@ use Rattle.std.proofs.lemmas.Bool.Decides.{nat_tests}
 use Rattle.cc_words.specs.declared.operators.Binary as two
 use Rattle.cc_words.specs.declared.operators.Width.{Width}
 use Rattle.cc_simulation.specs.World.{Size}
-use Rattle.cc_cminor.specs.Cminor.{Expression, Constant, Local, Unary, Binary, Load, Statement, Skip, Set, Store, Call, Read, Write, Sequence, If, Loop, Block, Exit, Return, Variables}
+use Rattle.cc_cminor_language.specs.Cminor.{Expression, Constant, Local, Unary, Binary, Load, Statement, Skip, Set, Store, Call, Read, Write, Sequence, If, Loop, Block, Exit, Return, Variables}
 use Rattle.cc_guard.specs.declared.known.Limit.{Limit}
 use Rattle.cc_guard.specs.Guard.{Guard, Guarded, most_in, most, is_below, always, reads_left, elements_in, waits_as, waiting, waiting_if, with_binary, with_test, learned, bounded, indexed, guarded, guarded_all, first_index, stored_word, told, with_told, sets, stays, kept_if, kept, set_to, either, joined, unset, falls, leaves, met, known_after, known_within, at_most, all_again, still, widened, turn, narrowed, found, if_again, head, some_guard, guards_after}
 use Rattle.cc_guard.specs.internal.Fits.{Under, AllUnder, Fits}

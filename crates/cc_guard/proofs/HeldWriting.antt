@@ -1,7 +1,7 @@
 -- Code that holds words in variables, as the lists of statements that the pass writes.
 use Rattle.std.proofs.Common.{◌≡◌, ℕ, suc, List, [], ◌∷◌, ◌++◌, refl, ap}
-use Rattle.cc_cminor.specs.Cminor.{Constant, Statement, Set, Sequence}
-use Rattle.cc_cminor.specs.Code.{in_sequence}
+use Rattle.cc_cminor_language.specs.Cminor.{Constant, Statement, Set, Sequence}
+use Rattle.cc_cminor_language.specs.Code.{in_sequence}
 use Rattle.cc_guard.specs.Held.{held_in, put_first}
 
 -- a list of statements whose conditions read the words

@@ -13,10 +13,10 @@ use Rattle.cc_simulation.specs.Meaning.{Meaning, call_effect}
 use Rattle.cc_simulation.specs.Tracks.{Keeps, Tracks}
 use Rattle.cc_simulation.specs.internal.Simulation.{Alike, Lockstep}
 use Rattle.cc_simulation.proofs.Lockstep.{same_run, same_work}
-use Rattle.cc_cminor.specs.Cminor.{Expression, Constant, Local, Unary, Binary, Load, Statement, Skip, Set, Store, Call, Read, Write, Sequence, If, Loop, Block, Exit, Return, Continuation, Ends, Then, Again, Leaving, Variables, value, values, then_value, put, put_result, Config, config, chosen, skips, exits, left_by, moves, first_variables, cminor_move, cminor_output, cminor_start}
-use Rattle.cc_cminor.specs.Numbers.{most_variables, ExpressionBelow, ResultBelow, StatementBelow, StatementFits}
-use Rattle.cc_cminor.specs.Variables.{above, above_result, above_expression, above_expressions, above_statement}
-use Rattle.cc_cminor.specs.Pair.{AreCalls, KeepsUp}
+use Rattle.cc_cminor_language.specs.Cminor.{Expression, Constant, Local, Unary, Binary, Load, Statement, Skip, Set, Store, Call, Read, Write, Sequence, If, Loop, Block, Exit, Return, Continuation, Ends, Then, Again, Leaving, Variables, value, values, then_value, put, put_result, Config, config, chosen, skips, exits, left_by, moves, first_variables, cminor_move, cminor_output, cminor_start}
+use Rattle.cc_cminor_language.specs.Numbers.{most_variables, ExpressionBelow, ResultBelow, StatementBelow, StatementFits}
+use Rattle.cc_cminor_language.specs.Variables.{above, above_result, above_expression, above_expressions, above_statement}
+use Rattle.cc_cminor_language.specs.Pair.{AreCalls, KeepsUp}
 use Rattle.cc_guard.specs.Held.{held_word, held_operand, held_test, held_in, put_first, with_words, Holding, IsHeld}
 use Rattle.cc_guard.specs.internal.Fits.{Under, AllUnder}
 use Rattle.cc_guard.proofs.Values.{Agree, put_there, put_elsewhere, same_value, same_values, under_more, all_under_more}

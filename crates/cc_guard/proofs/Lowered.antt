@@ -15,12 +15,12 @@ use Rattle.cc_c_semantics.specs.Numbered.{names_of, objects_of, named, shared_in
 use Rattle.cc_simulation.specs.World.{Object, Size, size_of, World, Answer, Effect, Gives, Unfinished, Failed}
 use Rattle.cc_simulation.specs.Meaning.{Meaning}
 use Rattle.cc_simulation.specs.Tracks.{Tracks}
-use Rattle.cc_cminor.specs.Cminor.{Expression, Constant, Local, Unary, Binary, Load, Statement, Skip, Set, Store, Call, Read, Write, Sequence, If, Loop, Block, Exit, Return, cminor_move, cminor_output, cminor_start}
-use Rattle.cc_cminor.specs.Numbers.{most_variables}
-use Rattle.cc_cminor.specs.Exits.{ExitsFit}
-use Rattle.cc_cminor.specs.Breaks.{TracksOrBreaks}
-use Rattle.cc_cminor.specs.Variables.{above, above_result, above_expression, above_expressions, above_statement}
-use Rattle.cc_cminor.specs.Pair.{Pair, tree_of, code_of, AreCalls, KeepsUp, FailsAlike, GoesWrong, IsPair}
+use Rattle.cc_cminor_language.specs.Cminor.{Expression, Constant, Local, Unary, Binary, Load, Statement, Skip, Set, Store, Call, Read, Write, Sequence, If, Loop, Block, Exit, Return, cminor_move, cminor_output, cminor_start}
+use Rattle.cc_cminor_language.specs.Numbers.{most_variables}
+use Rattle.cc_cminor_language.specs.Exits.{ExitsFit}
+use Rattle.cc_cminor_language.specs.Breaks.{TracksOrBreaks}
+use Rattle.cc_cminor_language.specs.Variables.{above, above_result, above_expression, above_expressions, above_statement}
+use Rattle.cc_cminor_language.specs.Pair.{Pair, tree_of, code_of, AreCalls, KeepsUp, FailsAlike, GoesWrong, IsPair}
 use Rattle.cc_guard.specs.declared.known.Limit.{Limit}
 use Rattle.cc_guard.specs.Guard.{Guard, Put, Stop, StopBoth, first_index, stored_word, guards_then, guarded, guarded_all, head, known_after, known_within, code_after, guarded_code, has_guards, with_loop, guarded_function, variables_in}
 use Rattle.cc_guard.specs.internal.Fits.{Under, AllUnder, Fits, KeepsSizes}

@@ -3,8 +3,8 @@ use Rattle.std.proofs.Common.{◌≡◌, ◌==◌, ℕ, zero, suc, ◌+◌, ◌<
 use Rattle.std.specs.Prelude.{◌||◌, set}
 use Rattle.std.proofs.lemmas.Bool.Decides.{nat_tests, eqb_tells}
 use Rattle.std.proofs.lemmas.List.{length-set, get_or-set_same, get_or-set_other}
-use Rattle.cc_cminor.specs.Cminor.{Statement}
-use Rattle.cc_cminor.specs.Code.{in_sequence}
+use Rattle.cc_cminor_language.specs.Cminor.{Statement}
+use Rattle.cc_cminor_language.specs.Code.{in_sequence}
 use Rattle.cc_guard.specs.declared.known.Limit.{Limit}
 use Rattle.cc_guard.specs.Guard.{sets_result, sets, stays, kept_if, kept}
 use Rattle.cc_guard.specs.internal.Marks.{Marks, IsMarked}

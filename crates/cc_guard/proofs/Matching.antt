@@ -9,9 +9,9 @@ use Rattle.cc_simulation.specs.Run.{Move, Goes, Calls, Returns, Fails, tried, ru
 use Rattle.cc_simulation.specs.Tracks.{Keeps, Keeping}
 use Rattle.cc_simulation.specs.internal.Simulation as ways
 use Rattle.cc_simulation.proofs.Simulating as simulating
-use Rattle.cc_cminor.specs.Cminor.{Exit, Expression, Statement, Skip, Set, If, Sequence, Continuation, Then, Variables, value, put, Config, config, chosen, cminor_move, cminor_output}
+use Rattle.cc_cminor_language.specs.Cminor.{Exit, Expression, Statement, Skip, Set, If, Sequence, Continuation, Then, Variables, value, put, Config, config, chosen, cminor_move, cminor_output}
 use Rattle.cc_guard.specs.Guard.{Guard, Put, Stop, StopBoth, guards_then}
-use Rattle.cc_cminor.specs.Breaks.{broken, broken_act, broken_resumed, BreaksAt}
+use Rattle.cc_cminor_language.specs.Breaks.{broken, broken_act, broken_resumed, BreaksAt}
 use Rattle.cc_guard.proofs.Passing.{Comes, Stops, Meets}
 
 abbrev pub Way : ℕ → Config → Config → Type 0

@@ -6,7 +6,7 @@ use Rattle.cc_words.specs.declared.operators.Width.{Width}
 use Rattle.cc_words.specs.Widths as widths
 use Rattle.cc_simulation.specs.World.{Size, size_of, World, Question, Answer, Effect, Gives, element, with_element, stored, next_word, after_read, after_write}
 use Rattle.cc_simulation.specs.Run.{Move, Goes, Calls, Returns, tried}
-use Rattle.cc_cminor.specs.Cminor.{Expression, Statement, Skip, Set, Store, Call, Read, Write, Sequence, If, Loop, Block, Exit, Return, Continuation, Ends, Then, Again, Leaving, Variables, value, values, put, put_result, then_value, Config, config, chosen, skips, exits, moves, cminor_move, cminor_output}
+use Rattle.cc_cminor_language.specs.Cminor.{Expression, Statement, Skip, Set, Store, Call, Read, Write, Sequence, If, Loop, Block, Exit, Return, Continuation, Ends, Then, Again, Leaving, Variables, value, values, put, put_result, then_value, Config, config, chosen, skips, exits, moves, cminor_move, cminor_output}
 use Rattle.cc_guard.specs.declared.known.Limit.{Limit}
 use Rattle.cc_guard.specs.Guard.{Guard, forever, most, first_index, stored_word, guards_then, guarded, guarded_all, sets, sets_result, told, with_told, falls, leaves, head, kept, set_to, known_after, known_within, code_after}
 use Rattle.cc_guard.specs.internal.Next.{Noted, Last, AndThen, InLoop, InBlock, plain_next, blocks_of, exits_of, guarded_next}

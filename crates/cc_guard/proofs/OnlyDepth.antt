@@ -25,8 +25,8 @@ use Rattle.cc_simulation.specs.World.{World, Question, Answer, Effect, Gives, Un
 use Rattle.cc_simulation.specs.Run.{Move, Goes, Calls, Returns, Fails, run, act, resumed, work}
 use Rattle.cc_simulation.specs.Meaning.{Meaning, most_open, IsCall, call_effect, answered}
 use Rattle.cc_simulation.specs.Tracks.{Keeps}
-use Rattle.cc_cminor.specs.Cminor.{Statement, Config, cminor_move, cminor_output, cminor_start}
-use Rattle.cc_cminor.proofs.Layer.{follows_of}
+use Rattle.cc_cminor_language.specs.Cminor.{Statement, Config, cminor_move, cminor_output, cminor_start}
+use Rattle.cc_cminor_language.proofs.Layer.{follows_of}
 use Rattle.cc_guard.specs.Safe.{NeedsNoGuard, NoneNeedsGuard, OnlyDepthIsLeft}
 use Rattle.cc_guard.proofs.Words.{IsAsked, IsOfWords, IsGiven, Onward, moves_on, starts_on}
 

@@ -2,7 +2,7 @@
 -- guards, without a run.
 use Rattle.std.proofs.Common.{◌≡◌, ℕ, suc, List, [], ◌∷◌, ◌++◌, Option, Some, None, ◌⊎◌, inl, inr, refl}
 use Rattle.cc_simulation.specs.World.{World}
-use Rattle.cc_cminor.specs.Cminor.{Expression, Variables, value, put, then_value}
+use Rattle.cc_cminor_language.specs.Cminor.{Expression, Variables, value, put, then_value}
 use Rattle.cc_guard.specs.Guard.{Guard, Put, Stop, StopBoth}
 
 module _ (h : World) where

@@ -4,7 +4,7 @@ use Rattle.cc_ast.specs.Tree.{Object, External}
 use Rattle.cc_types.specs.Types.{object_elements, object_width}
 use Rattle.cc_types.specs.Limits.{objects}
 use Rattle.cc_types.specs.Typed.{IsTyped}
-use Rattle.cc_resolve.specs.Layout.{laid_from}
+use Rattle.cc_layout.specs.Layout.{laid_from}
 use Rattle.cc_c_semantics.specs.Meaning.{Global, initial_globals}
 use Rattle.cc_c_semantics.specs.Calls.{NamedSize, sizes, laid_sizes, ObjectsAreSized}
 use Rattle.cc_c_semantics.specs.Numbered.{objects_in, objects_of}

@@ -14,7 +14,7 @@ use Rattle.cc_words.specs.Widths.{same_width}
 use Rattle.cc_words.specs.Words.{truth_value}
 use Rattle.cc_words.specs.Operators.{apply_binary}
 use Rattle.cc_simulation.specs.World.{Object, Size, size_of, World, object_of, object_words, size_in, element, object_with, with_element, stored}
-use Rattle.cc_cminor.specs.Cminor.{Expression, Constant, Unary, Binary, Variables, value, then_value}
+use Rattle.cc_cminor_language.specs.Cminor.{Expression, Constant, Unary, Binary, Variables, value, then_value}
 use Rattle.cc_guard.specs.Guard.{Guard, Stop, StopBoth, asked_signed, asked_divisor, asked_shift, asked, elements_of, elements_in}
 use Rattle.cc_guard.proofs.Passing.{Meets, Tells, tested}
 

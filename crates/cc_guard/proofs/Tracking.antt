@@ -5,8 +5,8 @@ use Rattle.std.specs.Prelude.{if◌then◌else◌}
 use Rattle.cc_simulation.specs.World.{World, size_of, Question, Answer, Effect, Gives}
 use Rattle.cc_simulation.specs.Meaning.{Meaning, call_effect}
 use Rattle.cc_simulation.specs.Tracks.{Tracks}
-use Rattle.cc_cminor.specs.Cminor.{Statement, Sequence, Block, Exit, Ends, Then, Leaving, Config, config, first_variables, cminor_move, cminor_output, cminor_start}
-use Rattle.cc_cminor.specs.Breaks.{TracksOrBreaks}
+use Rattle.cc_cminor_language.specs.Cminor.{Statement, Sequence, Block, Exit, Ends, Then, Leaving, Config, config, first_variables, cminor_move, cminor_output, cminor_start}
+use Rattle.cc_cminor_language.specs.Breaks.{TracksOrBreaks}
 use Rattle.cc_guard.specs.Guard.{forever, known_after, guarded_code, has_guards, with_loop, guarded_function}
 use Rattle.cc_guard.specs.internal.Fits.{Fits, KeepsSizes}
 use Rattle.cc_guard.specs.internal.Next.{Last}

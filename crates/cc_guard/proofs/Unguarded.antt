@@ -6,8 +6,8 @@ use Rattle.cc_words.specs.declared.operators.Binary.TheVariants.{Add, Sub, Mul, 
 use Rattle.cc_words.specs.declared.operators.Width.{Width}
 use Rattle.cc_simulation.specs.World.{Size, size_of, World, Question, Answer, Effect, Gives, Unfinished, Failed, after_write}
 use Rattle.cc_simulation.specs.Run.{Move, Goes, Calls, Returns, Fails, tried}
-use Rattle.cc_cminor.specs.Cminor.{Expression, Constant, Local, Unary, Binary, Load, Statement, Skip, Set, Store, Call, Read, Write, Sequence, If, Loop, Block, Exit, Return, Continuation, Ends, Then, Again, Leaving, Variables, value, values, put, put_result, Config, config, chosen, skips, exits, moves, cminor_move, cminor_output}
-use Rattle.cc_cminor.specs.Breaks.{broken, broken_act, broken_resumed, BreaksAt}
+use Rattle.cc_cminor_language.specs.Cminor.{Expression, Constant, Local, Unary, Binary, Load, Statement, Skip, Set, Store, Call, Read, Write, Sequence, If, Loop, Block, Exit, Return, Continuation, Ends, Then, Again, Leaving, Variables, value, values, put, put_result, Config, config, chosen, skips, exits, moves, cminor_move, cminor_output}
+use Rattle.cc_cminor_language.specs.Breaks.{broken, broken_act, broken_resumed, BreaksAt}
 use Rattle.cc_guard.specs.declared.known.Limit.{Limit}
 use Rattle.cc_guard.specs.Guard.{Guard, Guarded, most, is_below, always, asked, reads_left, elements_in, waiting, waiting_if, with_binary, with_test, bounded, first_index, stored_word, guards_then, guarded, guarded_all, head, known_after, known_within, code_after, guarded_code, some_guard, guards_after, with_loop}
 use Rattle.cc_guard.specs.Laws.{UnguardedStays}

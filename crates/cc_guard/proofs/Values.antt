@@ -8,7 +8,7 @@ use Rattle.cc_words.specs.declared.operators.Binary.TheVariants.{LeU}
 use Rattle.cc_words.specs.declared.operators.Width.{Width}
 use Rattle.cc_words.specs.Operators.{apply_unary, apply_binary}
 use Rattle.cc_simulation.specs.World.{Size, size_of, World, element}
-use Rattle.cc_cminor.specs.Cminor.{Expression, Constant, Local, Unary, Binary, Load, Variables, value, values, put, then_value}
+use Rattle.cc_cminor_language.specs.Cminor.{Expression, Constant, Local, Unary, Binary, Load, Variables, value, values, put, then_value}
 use Rattle.cc_guard.specs.declared.known.Limit.{Limit}
 use Rattle.cc_guard.specs.Guard.{Guard, Put, Stop, Guarded, most, is_below, always, asked, reads_left, elements_in, waits_as, waiting, waiting_if, with_binary, with_test, with_load, learned, bounded, indexed, guarded, guarded_all}
 use Rattle.cc_guard.specs.internal.Fits.{Under, AllUnder}

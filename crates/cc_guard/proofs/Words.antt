@@ -21,8 +21,8 @@ use Rattle.cc_c_semantics.specs.Numbered.{objects_in, arity_in}
 use Rattle.cc_simulation.specs.Behavior.{AreWords}
 use Rattle.cc_simulation.specs.World.{Object, Size, World, Answer, IsWorld, object_of, object_words, object_with, element, with_element, stored, first_or_zero, rest_of, next_word, after_read, after_write}
 use Rattle.cc_simulation.specs.Run.{Move, Goes, Calls, Returns, Fails, tried}
-use Rattle.cc_cminor.specs.Cminor.{Expression, Constant, Local, Unary, Binary, Load, Statement, Skip, Set, Store, Call, Read, Write, Sequence, If, Loop, Block, Exit, Return, Continuation, Ends, Then, Again, Leaving, Variables, value, values, put, put_result, then_value, Config, config, chosen, left_by, skips, exits, moves, cminor_move, first_variables, cminor_start}
-use Rattle.cc_cminor.specs.Pair.{AreCalls}
+use Rattle.cc_cminor_language.specs.Cminor.{Expression, Constant, Local, Unary, Binary, Load, Statement, Skip, Set, Store, Call, Read, Write, Sequence, If, Loop, Block, Exit, Return, Continuation, Ends, Then, Again, Leaving, Variables, value, values, put, put_result, then_value, Config, config, chosen, left_by, skips, exits, moves, cminor_move, first_variables, cminor_start}
+use Rattle.cc_cminor_language.specs.Pair.{AreCalls}
 use Rattle.cc_guard.specs.Safe.{ConstantsFit, AllConstantsFit, CodeConstantsFit}
 use Rattle.cc_guard.proofs.Tests.{stored_sizes}
 

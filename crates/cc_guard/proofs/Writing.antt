@@ -4,12 +4,12 @@ use Rattle.std.specs.Prelude.{◌||◌, max}
 use Rattle.std.proofs.Math.Bool.{or_assoc}
 use Rattle.std.proofs.Math.Nat.{max-zero, max-le, le-max_left, le-max_right}
 use Rattle.cc_simulation.specs.World.{Size}
-use Rattle.cc_cminor.specs.Cminor.{Expression, Constant, Local, Unary, Binary, Load, Statement, Sequence, If}
-use Rattle.cc_cminor.specs.Code.{expression_of, statement_of, in_sequence}
-use Rattle.cc_cminor.proofs.Codes.{sequence_is}
+use Rattle.cc_cminor_language.specs.Cminor.{Expression, Constant, Local, Unary, Binary, Load, Statement, Sequence, If}
+use Rattle.cc_cminor_language.specs.Code.{expression_of, statement_of, in_sequence}
+use Rattle.cc_cminor_language.proofs.Codes.{sequence_is}
 use Rattle.cc_words.specs.declared.operators.Width.{Width}
-use Rattle.cc_cminor.specs.internal.Statements.{statements_of}
-use Rattle.cc_cminor.specs.declared.code.Statement as code
+use Rattle.cc_cminor_language.specs.Statements.{statements_of}
+use Rattle.cc_cminor_language.specs.declared.code.Statement as code
 use Rattle.cc_guard.specs.declared.known.Limit.{Limit}
 use Rattle.cc_guard.specs.declared.guards.Guards.{Guards}
 use Rattle.cc_guard.specs.declared.guards.Seen.{Seen}

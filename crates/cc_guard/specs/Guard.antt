@@ -9,7 +9,7 @@ use Rattle.cc_words.specs.declared.operators.Binary.TheVariants.{Add, Sub, Mul, 
 use Rattle.cc_words.specs.declared.operators.Width.{Width}
 use Rattle.cc_words.specs.Widths.{same_width}
 use Rattle.cc_simulation.specs.World.{Size, size_in}
-use Rattle.cc_cminor.specs.Cminor.{Expression, Constant, Local, Unary, Binary, Load, Statement, Skip, Set, Store, Call, Read, Write, Sequence, If, Loop, Block, Exit, Return}
+use Rattle.cc_cminor_language.specs.Cminor.{Expression, Constant, Local, Unary, Binary, Load, Statement, Skip, Set, Store, Call, Read, Write, Sequence, If, Loop, Block, Exit, Return}
 use Rattle.cc_guard.specs.declared.known.Limit.{Limit}
 
 -- ---- guards

@@ -1,9 +1,9 @@
 -- Code in which some of the constants that conditions compare with are held in variables: each is put into its variable once,
 -- before the code. A branch that compares two variables is one instruction; one that compares a variable with a constant is two.
 use Rattle.std.specs.Prelude.{◌≡◌, ◌⊎◌, ℕ, suc, ◌+◌, ◌≤◌, ◌==◌, List, [], ◌∷◌, length, if◌then◌else◌}
-use Rattle.cc_cminor.specs.Cminor.{Expression, Constant, Local, Binary, Statement, Skip, Set, Store, Call, Read, Write, Sequence, If, Loop, Block, Exit, Return}
-use Rattle.cc_cminor.specs.Numbers.{most_variables}
-use Rattle.cc_cminor.specs.Variables.{above_statement}
+use Rattle.cc_cminor_language.specs.Cminor.{Expression, Constant, Local, Binary, Statement, Skip, Set, Store, Call, Read, Write, Sequence, If, Loop, Block, Exit, Return}
+use Rattle.cc_cminor_language.specs.Numbers.{most_variables}
+use Rattle.cc_cminor_language.specs.Variables.{above_statement}
 
 -- a constant, or the variable that holds its word; the variables from m on hold the words
 abbrev pub held_word : (words : List ℕ) → (m w : ℕ) → Expression

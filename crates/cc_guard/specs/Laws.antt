@@ -1,8 +1,8 @@
 -- What holds for all guarded code.
 use Rattle.std.specs.Prelude.{◌≡◌, ℕ, ◌+◌, ◌*◌, ◌≤◌, false, List}
 use Rattle.cc_simulation.specs.World.{Size}
-use Rattle.cc_cminor.specs.Cminor.{Statement}
-use Rattle.cc_cminor.specs.Size.{code_partials}
+use Rattle.cc_cminor_language.specs.Cminor.{Statement}
+use Rattle.cc_cminor_language.specs.Size.{code_partials}
 use Rattle.cc_guard.specs.Guard.{has_guards, guarded_function, variables_in}
 
 -- guards set at most two variables for each operation that can lack a value

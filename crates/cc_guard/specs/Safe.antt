@@ -10,8 +10,8 @@ use Rattle.cc_c_semantics.specs.Numbered.{world_of, objects_in}
 use Rattle.cc_c_semantics.specs.declared.cause.Cause.{Cause}
 use Rattle.cc_c_semantics.specs.declared.cause.Cause.TheVariants.{Depth}
 use Rattle.cc_c_semantics.specs.declared.mode.Mode.TheVariants.{Checked}
-use Rattle.cc_cminor.specs.Cminor.{Expression, Constant, Local, Unary, Binary, Load, Statement, Skip, Set, Store, Call, Read, Write, Sequence, If, Loop, Block, Exit, Return}
-use Rattle.cc_cminor.specs.Pair.{AreCalls, KeepsUp, GoesWrong}
+use Rattle.cc_cminor_language.specs.Cminor.{Expression, Constant, Local, Unary, Binary, Load, Statement, Skip, Set, Store, Call, Read, Write, Sequence, If, Loop, Block, Exit, Return}
+use Rattle.cc_cminor_language.specs.Pair.{AreCalls, KeepsUp, GoesWrong}
 
 -- ---- the constants of code are words
 

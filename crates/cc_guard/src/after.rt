@@ -7,9 +7,9 @@
 // around that one.
 
 ghost use Rattle.std.specs.Prelude.{◌≡◌, IfOk};
-ghost use Rattle.cc_cminor.specs.Cminor as cminor;
-ghost use Rattle.cc_cminor.specs.Code.{expression_of, expressions_of, statement_of, in_sequence};
-ghost use Rattle.cc_cminor.specs.internal.Statements.{statements_of};
+ghost use Rattle.cc_cminor_language.specs.Cminor as cminor;
+ghost use Rattle.cc_cminor_language.specs.Code.{expression_of, expressions_of, statement_of, in_sequence};
+ghost use Rattle.cc_cminor_language.specs.Statements.{statements_of};
 ghost use Rattle.cc_guard.specs.Guard.{guarded, guarded_all, first_index, stored_word, told, with_told, kept, sets, met, falls, known_after, turn, narrowed, found, head};
 ghost use Rattle.cc_guard.specs.internal.Written.{sizes_of};
 
@@ -19,7 +19,7 @@ use crate::guards::{Guards, begun};
 use crate::heads::{all_again, joined, met_both, still, together, widened};
 use crate::known::{Limit, most, told};
 use crate::sizes::ObjectSize;
-use cc_cminor::{Expression, Statement};
+use cc_cminor_language::{Expression, Statement};
 use cc_words::Width;
 use std::alloc::{AllocError, Global};
 

@@ -1,11 +1,13 @@
 // Boxed expressions and statements of Cminor.
 
 ghost use Rattle.std.specs.Prelude.{◌≡◌, IfOk};
-ghost use Rattle.cc_cminor.specs.Cminor as cminor;
-ghost use Rattle.cc_cminor.specs.Code.{expression_of, statement_of, in_sequence};
-ghost use Rattle.cc_cminor.specs.internal.Statements.{statements_of};
+ghost use Rattle.cc_cminor_language.specs.Cminor as cminor;
+ghost use Rattle.cc_cminor_language.specs.Code.{expression_of, statement_of, in_sequence};
+ghost use Rattle.cc_cminor_language.specs.Statements.{statements_of};
 
-use cc_cminor::{Expression, Statement, boxed_expression, boxed_statement, constant, local};
+use cc_cminor_language::{
+    Expression, Statement, boxed_expression, boxed_statement, constant, local,
+};
 use cc_words::{Binary, Unary, Width};
 use std::alloc::{AllocError, Global};
 

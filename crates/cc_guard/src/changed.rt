@@ -4,13 +4,13 @@
 // and nested loops.
 
 ghost use Rattle.std.specs.Prelude.{◌≡◌, ◌&&◌, ℕ, nat_lt, Bool, false, not, Some, length, get_or, IfOk, OnOk};
-ghost use Rattle.cc_cminor.specs.Code.{statement_of, in_sequence};
-ghost use Rattle.cc_cminor.specs.internal.Statements.{statements_of};
+ghost use Rattle.cc_cminor_language.specs.Code.{statement_of, in_sequence};
+ghost use Rattle.cc_cminor_language.specs.Statements.{statements_of};
 ghost use Rattle.cc_guard.specs.Guard.{sets_result, sets, unset, kept, set_to, with_told, falls, leaves};
 ghost use Rattle.cc_guard.specs.internal.Marks.{Marks, IsMarked};
 
 use crate::known::Limit;
-use cc_cminor::Statement;
+use cc_cminor_language::Statement;
 use std::alloc::{AllocError, Global};
 
 // Whether a call or a read puts its result into this variable.

@@ -3,11 +3,11 @@
 //
 // The recursion is as deep as the tree, like that of `statements`.
 
-ghost use Rattle.cc_cminor.specs.Code.{expression_of, expressions_of, statement_of, in_sequence};
-ghost use Rattle.cc_cminor.specs.internal.Statements.{statements_of};
+ghost use Rattle.cc_cminor_language.specs.Code.{expression_of, expressions_of, statement_of, in_sequence};
+ghost use Rattle.cc_cminor_language.specs.Statements.{statements_of};
 ghost use Rattle.cc_guard.specs.Safe.{ConstantsFit, AllConstantsFit, CodeConstantsFit};
 
-use cc_cminor::{Expression, Statement};
+use cc_cminor_language::{Expression, Statement};
 
 fn expression_fits(e: &Expression)
     ensures { ConstantsFit (expression_of e.now) }

@@ -3,8 +3,8 @@
 // The recursion is as deep as the expression, which has at most 512 tokens of the source.
 
 ghost use Rattle.std.specs.Prelude.{◌≡◌, ◌++◌, IfOk, OnOk};
-ghost use Rattle.cc_cminor.specs.Cminor as cminor;
-ghost use Rattle.cc_cminor.specs.Code.{expression_of, expressions_of};
+ghost use Rattle.cc_cminor_language.specs.Cminor as cminor;
+ghost use Rattle.cc_cminor_language.specs.Code.{expression_of, expressions_of};
 ghost use Rattle.cc_guard.specs.Guard.{asked, reads_left, waiting, waiting_if, indexed, guarded, guarded_all};
 ghost use Rattle.cc_guard.specs.internal.Written.{Adds, AddsAll, here, sizes_of};
 
@@ -12,7 +12,7 @@ use crate::boxes::{binary, load, unary};
 use crate::guards::{Guards, add_asked, bounded, waiting};
 use crate::known::{always, is_below, most};
 use crate::sizes::{ObjectSize, elements_in};
-use cc_cminor::{Expression, constant, local};
+use cc_cminor_language::{Expression, constant, local};
 use cc_words::{Binary, Width};
 use std::alloc::{AllocError, Global};
 

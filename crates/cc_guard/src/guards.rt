@@ -1,9 +1,9 @@
 // The guards of one statement, which are written in front of it.
 
 ghost use Rattle.std.specs.Prelude.{◌≡◌, ◌∷◌, [], ◌+◌, ◌++◌, IfOk, OnOk};
-ghost use Rattle.cc_cminor.specs.Cminor as cminor;
-ghost use Rattle.cc_cminor.specs.Code.{expression_of, statement_of, in_sequence};
-ghost use Rattle.cc_cminor.specs.internal.Statements.{statements_of};
+ghost use Rattle.cc_cminor_language.specs.Cminor as cminor;
+ghost use Rattle.cc_cminor_language.specs.Code.{expression_of, statement_of, in_sequence};
+ghost use Rattle.cc_cminor_language.specs.Statements.{statements_of};
 ghost use Rattle.cc_words.specs.declared.operators.Binary.TheVariants as two;
 ghost use Rattle.cc_guard.specs.Guard as guard;
 ghost use Rattle.cc_guard.specs.Guard.{Stop, StopBoth, guard_code, asked_signed, asked, learned, waiting, bounded, forever, with_loop};
@@ -11,7 +11,7 @@ ghost use Rattle.cc_guard.specs.internal.Written.{Adds, AddsAll, here, Sees, som
 
 use crate::boxes::{binary, copied, sequence, unary};
 use crate::known::Limit;
-use cc_cminor::{Expression, Statement, both, boxed_statement, constant, local};
+use cc_cminor_language::{Expression, Statement, both, boxed_statement, constant, local};
 use cc_words::{Binary, Unary};
 use std::alloc::{AllocError, Global};
 

@@ -2,12 +2,12 @@
 // loop.
 
 ghost use Rattle.std.specs.Prelude.{◌≡◌, ◌++◌, IfOk};
-ghost use Rattle.cc_cminor.specs.Code.{statement_of};
+ghost use Rattle.cc_cminor_language.specs.Code.{statement_of};
 ghost use Rattle.cc_guard.specs.Guard.{joined, kept, unset, at_most, all_again, still, widened};
 
 use crate::changed::kept_set;
 use crate::known::{Limit, most_in};
-use cc_cminor::Statement;
+use cc_cminor_language::Statement;
 use std::alloc::{AllocError, Global};
 
 /// The bounds `known`, then the bounds `more`.

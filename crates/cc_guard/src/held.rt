@@ -5,14 +5,16 @@
 // in a loop costs half as much.
 
 ghost use Rattle.std.specs.Prelude.{◌≡◌, IfOk};
-ghost use Rattle.cc_cminor.specs.Code.{expression_of, expressions_of, statement_of, in_sequence};
-ghost use Rattle.cc_cminor.specs.internal.Statements.{statements_of};
-ghost use Rattle.cc_cminor.specs.Numbers.{StatementFits};
+ghost use Rattle.cc_cminor_language.specs.Code.{expression_of, expressions_of, statement_of, in_sequence};
+ghost use Rattle.cc_cminor_language.specs.Statements.{statements_of};
+ghost use Rattle.cc_cminor_language.specs.Numbers.{StatementFits};
 ghost use Rattle.cc_guard.specs.Held.{held_word, held_operand, held_test, held_in, with_words, IsHeld};
 
 use crate::boxes::{binary, copied, sequence};
 use crate::wanted::wanted_words;
-use cc_cminor::{Expression, Statement, boxed_statement, constant, local, variables_above};
+use cc_cminor_language::{
+    Expression, Statement, boxed_statement, constant, local, variables_above,
+};
 use std::alloc::{AllocError, Global};
 
 /// The greatest number of variables that code may have.

@@ -1,10 +1,10 @@
 // The bounds on an expression's value that its form and the known bounds of variables show.
 
 ghost use Rattle.std.specs.Prelude.{◌≡◌};
-ghost use Rattle.cc_cminor.specs.Code.{expression_of};
+ghost use Rattle.cc_cminor_language.specs.Code.{expression_of};
 ghost use Rattle.cc_guard.specs.Guard.{least, most_sum, most_product, less_one, told_of, told_less, told_most, if_small, told, below_divisor, most_in, most, is_below, is_divisor, is_signed_divisor, always};
 
-use cc_cminor::Expression;
+use cc_cminor_language::Expression;
 use cc_words::Binary;
 
 /// A variable holds at most the word `most`.

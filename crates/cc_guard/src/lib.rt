@@ -21,6 +21,6 @@ mod sizes;
 mod statements;
 mod wanted;
 
-pub use cc_cminor::CodeFault as GuardFault;
+pub use cc_cminor_language::CodeFault as GuardFault;
 pub use laws::{guards_set_few, only_depth_is_left, unguarded_code_stays};
 pub use pass::{guard, needs_no_guard};

@@ -3,12 +3,12 @@
 ghost use Rattle.std.specs.Prelude.{◌≡◌, ◌<◌, ◌≤◌, true, false, not, IfOk, OnOk, IfErr};
 ghost use Rattle.cc_c_semantics.specs.Numbered.{objects_in};
 ghost use Rattle.cc_c_semantics.specs.declared.mode.Mode.TheVariants.{Checked};
-ghost use Rattle.cc_cminor.specs.Code.{statement_of};
-ghost use Rattle.cc_cminor.specs.Exits.{ExitsFit};
-ghost use Rattle.cc_cminor.specs.Numbers.{most_variables};
-ghost use Rattle.cc_cminor.specs.Pair.{tree_of, code_of, FailsAlike, GoesWrong};
-ghost use Rattle.cc_cminor.specs.Variables.{above_statement};
-ghost use Rattle.cc_cminor.specs.declared.fault.CodeFault.TheVariants.{FunctionTooLarge};
+ghost use Rattle.cc_cminor_language.specs.Code.{statement_of};
+ghost use Rattle.cc_cminor_language.specs.Exits.{ExitsFit};
+ghost use Rattle.cc_cminor_language.specs.Numbers.{most_variables};
+ghost use Rattle.cc_cminor_language.specs.Pair.{tree_of, code_of, FailsAlike, GoesWrong};
+ghost use Rattle.cc_cminor_language.specs.Variables.{above_statement};
+ghost use Rattle.cc_cminor_language.specs.declared.fault.CodeFault.TheVariants.{FunctionTooLarge};
 ghost use Rattle.cc_guard.specs.Guard.{guarded_code, has_guards, guarded_function, variables_in};
 ghost use Rattle.cc_guard.specs.Held.{IsHeld};
 ghost use Rattle.cc_guard.specs.Safe.{NeedsNoGuard};
@@ -20,7 +20,7 @@ use crate::held::{MOST_VARIABLES, held};
 use crate::sizes::object_sizes;
 use crate::statements::{Done, statement};
 use cc_c_semantics::{Mode, calls_keep_objects};
-use cc_cminor::{CminorPair, CodeFault as GuardFault, Statement, variables_above};
+use cc_cminor_language::{CminorPair, CodeFault as GuardFault, Statement, variables_above};
 use cc_types::TypedUnit;
 use std::alloc::{AllocError, Global};
 

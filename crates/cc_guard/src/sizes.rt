@@ -13,7 +13,7 @@ ghost use Rattle.cc_guard.specs.internal.Written.{sizes_of, declared_sizes, is_b
 
 use cc_ast::{External, Object};
 use cc_c_semantics::names_have_numbers;
-use cc_resolve::object_width;
+use cc_layout::object_width;
 use cc_types::object_elements;
 use cc_words::Width;
 use std::alloc::{AllocError, Global};

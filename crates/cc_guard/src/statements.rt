@@ -3,9 +3,9 @@
 // The recursion is as deep as the tree: at most eight levels of Cminor for each of the source's 64 levels.
 
 ghost use Rattle.std.specs.Prelude.{◌≡◌, IfOk, OnOk};
-ghost use Rattle.cc_cminor.specs.Cminor as cminor;
-ghost use Rattle.cc_cminor.specs.Code.{expression_of, expressions_of, statement_of, in_sequence};
-ghost use Rattle.cc_cminor.specs.internal.Statements.{statements_of};
+ghost use Rattle.cc_cminor_language.specs.Cminor as cminor;
+ghost use Rattle.cc_cminor_language.specs.Code.{expression_of, expressions_of, statement_of, in_sequence};
+ghost use Rattle.cc_cminor_language.specs.Statements.{statements_of};
 ghost use Rattle.cc_guard.specs.Guard.{known_after, code_after};
 ghost use Rattle.cc_guard.specs.internal.Written.{SeesStatement, sizes_of};
 
@@ -16,7 +16,7 @@ use crate::expressions::{expression, expressions, index};
 use crate::guards::{Seen, begun, finished, note};
 use crate::known::Limit;
 use crate::sizes::ObjectSize;
-use cc_cminor::{Expression, Statement, boxed_statement};
+use cc_cminor_language::{Expression, Statement, boxed_statement};
 use cc_words::Width;
 use std::alloc::{AllocError, Global};
 

@@ -4,7 +4,7 @@
 ghost use Rattle.std.specs.Prelude.{◌≤◌, length, IfOk};
 ghost use Rattle.cc_guard.specs.Held.{most_held};
 
-use cc_cminor::{Expression, Statement};
+use cc_cminor_language::{Expression, Statement};
 use cc_words::Binary;
 use std::alloc::{AllocError, Global};
 

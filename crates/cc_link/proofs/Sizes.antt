@@ -6,7 +6,7 @@ use Rattle.cc_ast.specs.Tree.{Object, External}
 use Rattle.cc_types.specs.Types.{object_elements, object_width, object_words, initial_words}
 use Rattle.cc_types.specs.Limits.{most_words, too_many, past, function_names, objects, object_name, word_excesses, externals_excesses}
 use Rattle.cc_types.specs.Typed.{IsTyped, IsWithinLimits}
-use Rattle.cc_resolve.specs.Layout.{laid_from}
+use Rattle.cc_layout.specs.Layout.{laid_from}
 use Rattle.cc_c_semantics.specs.Meaning.{Global, initial_global, initial_globals}
 use Rattle.cc_c_semantics.specs.Calls as calls
 use Rattle.cc_c_semantics.specs.Calls.{sizes, laid_sizes, ObjectsAreSized}

@@ -6,7 +6,8 @@ ghost use Rattle.cc_types.specs.Limits.{objects};
 ghost use Rattle.cc_link.specs.Packed.{word_of_bytes, packed_bytes, object_image, image_words};
 ghost use Rattle.cc_link.specs.internal.Packing.{AreBytes, external_image};
 
-use cc_resolve::{add_words, object_width};
+use cc_layout::object_width;
+use cc_resolve::add_words;
 use cc_syntax::{External, Object};
 use cc_words::Width;
 use std::alloc::{AllocError, Global};

@@ -1,6 +1,6 @@
 // Where a function's allocation comes from, and who watches a function on its way through the passes.
 
-use cc_cminor::CminorPair;
+use cc_cminor_language::CminorPair;
 use cc_linear_language::LinearPair;
 use cc_ltl::Ltl;
 use cc_rtl::Rtl;

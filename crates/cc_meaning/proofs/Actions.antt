@@ -6,13 +6,13 @@ use Rattle.cc_words.specs.declared.operators.Width.{Width}
 use Rattle.cc_tokens.specs.declared.scalar.Scalar.{Scalar}
 use Rattle.cc_ast.specs.declared.ast.BinaryOperator.{BinaryOperator}
 use Rattle.cc_types.specs.Operators.{working_type, binary_word}
-use Rattle.cc_resolve.specs.declared.layout.Extent.{Extent}
+use Rattle.cc_layout.specs.declared.layout.Extent.{Extent}
 use Rattle.cc_resolve.specs.declared.operations.BinaryOperation.{BinaryOperation}
 use Rattle.cc_meaning.specs.declared.form.Instruction.TheVariants as instruction
 use Rattle.cc_meaning.specs.declared.form.Slot.TheVariants as slot
 use Rattle.cc_meaning.specs.internal.Form.{FormTree, store_of, store_element_of, applied}
-use Rattle.cc_resolve.specs.Environment.{Environment, number_in}
-use Rattle.cc_resolve.specs.Layout.{extent_of}
+use Rattle.cc_layout.specs.Environment.{Environment, number_in}
+use Rattle.cc_layout.specs.Layout.{extent_of}
 use Rattle.cc_resolve.specs.Operations.{operation}
 use Rattle.cc_c_semantics.specs.Outcome as outcome
 use Rattle.cc_c_semantics.specs.declared.cause.Cause.TheVariants.{Index}

@@ -3,8 +3,8 @@ use Rattle.std.proofs.Common.{◌≡◌, ℕ, zero, suc, ◌+◌, ◌-◌, ◌�
 use Rattle.std.proofs.lemmas.List.{length-map, reverse-append, map-append, drop_at}
 use Rattle.cc_meaning.specs.declared.form.Instruction.TheVariants as instruction
 use Rattle.cc_meaning.specs.internal.Form.{FormTree}
-use Rattle.cc_resolve.specs.Environment.{Environment}
-use Rattle.cc_resolve.specs.Layout.{Layout}
+use Rattle.cc_layout.specs.Environment.{Environment}
+use Rattle.cc_layout.specs.Layout.{Layout}
 use Rattle.cc_c_semantics.specs.Meaning.{Local, State, Run, Gives, Flow, Falls, Breaks, Continues, Returns, left_scope, in_block}
 use Rattle.cc_meaning.specs.internal.FormMeaning.{Activation, Configuration}
 use Rattle.cc_c_semantics.proofs.Held.{names_of, words_in, layout_from}

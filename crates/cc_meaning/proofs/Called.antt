@@ -11,9 +11,9 @@ use Rattle.cc_meaning.specs.declared.form.Entry.{Entry}
 use Rattle.cc_meaning.specs.declared.form.Instruction.{Instruction}
 use Rattle.cc_meaning.specs.declared.form.Instruction.TheVariants as instruction
 use Rattle.cc_meaning.specs.internal.Form.{FormTree, call_to, call_of, statements_code, FunctionCode}
-use Rattle.cc_resolve.specs.declared.layout.Callee.TheVariants as leads
-use Rattle.cc_resolve.specs.Environment.{Environment, parameter_names}
-use Rattle.cc_resolve.specs.Layout.{Layout, names_before}
+use Rattle.cc_layout.specs.declared.layout.Callee.TheVariants as leads
+use Rattle.cc_layout.specs.Environment.{Environment, parameter_names}
+use Rattle.cc_layout.specs.Layout.{Layout, names_before}
 use Rattle.cc_c_semantics.specs.Outcome as outcome
 use Rattle.cc_c_semantics.specs.declared.cause.Cause.TheVariants.{Depth}
 use Rattle.cc_c_semantics.specs.Meaning.{Local, State, Gives, Wrong, Flow, Falls, Breaks, Continues, Returns, Calls, spend_of, Function, text_of, function_named, bound, result_of, run_body, run_optional, read_input, most_open, calls, execute_all}

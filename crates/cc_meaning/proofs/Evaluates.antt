@@ -8,8 +8,8 @@ use Rattle.cc_types.specs.Rules.{array_errors, function_errors, count_of, void_e
 use Rattle.cc_types.specs.declared.rule.Rule.TheVariants.{WrongKind}
 use Rattle.cc_meaning.specs.declared.form.Instruction.TheVariants as instruction
 use Rattle.cc_meaning.specs.internal.Form.{FormTree, unary_code, load, call_of, expression_code, arguments_code}
-use Rattle.cc_resolve.specs.Environment.{Environment, types_in}
-use Rattle.cc_resolve.specs.Layout.{Layout, extent_of}
+use Rattle.cc_layout.specs.Environment.{Environment, types_in}
+use Rattle.cc_layout.specs.Layout.{Layout, extent_of}
 use Rattle.cc_c_semantics.specs.Meaning.{State, Gives, then_do, Calls, variable_word, read_element, evaluate, evaluate_all}
 use Rattle.cc_meaning.specs.internal.FormMeaning.{Activation}
 use Rattle.cc_c_semantics.proofs.Errors.{nil_left, nil_right, defined_left, defined_right, is_defined, variable_found, function_found}

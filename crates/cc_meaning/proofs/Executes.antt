@@ -11,8 +11,8 @@ use Rattle.cc_types.specs.Limits.{beginning_names, locals_of, locals}
 use Rattle.cc_meaning.specs.declared.form.Instruction.{Instruction}
 use Rattle.cc_meaning.specs.declared.form.Instruction.TheVariants as instruction
 use Rattle.cc_meaning.specs.internal.Form.{FormTree, expression_code, optional_action_code, Exits, further, declared_code, beginning_code, value_code, condition_code, turns_code, loop_code, exits_of_body, statement_code, statements_code}
-use Rattle.cc_resolve.specs.Environment.{Environment, types_in, inner, with_locals, behind, behind_beginning}
-use Rattle.cc_resolve.specs.Layout.{Layout}
+use Rattle.cc_layout.specs.Environment.{Environment, types_in, inner, with_locals, behind, behind_beginning}
+use Rattle.cc_layout.specs.Layout.{Layout}
 use Rattle.cc_c_semantics.specs.Meaning.{State, Run, Gives, Flow, Falls, Breaks, Continues, Returns, then_do, choose, Calls, behind_flow, begin_body, turns, evaluate, evaluate_or, perform_optional, declare, start, in_block, return, execute, execute_all}
 use Rattle.cc_meaning.specs.internal.FormMeaning.{Activation, Configuration}
 use Rattle.cc_c_semantics.proofs.Errors.{nil_left, nil_right, defined_left, defined_right}

@@ -9,13 +9,13 @@ use Rattle.cc_ast.specs.declared.ast.UnaryOperator.TheVariants as unary
 use Rattle.cc_ast.specs.declared.ast.BinaryOperator.{BinaryOperator}
 use Rattle.cc_ast.specs.declared.ast.BinaryOperator.TheVariants.{LogicalAnd, LogicalOr}
 use Rattle.cc_types.specs.Operators.{unary_word, binary_word, decided, is_true}
-use Rattle.cc_resolve.specs.declared.layout.Extent.{Extent}
+use Rattle.cc_layout.specs.declared.layout.Extent.{Extent}
 use Rattle.cc_resolve.specs.declared.operations.BinaryOperation.{BinaryOperation}
 use Rattle.cc_meaning.specs.declared.form.Instruction.{Instruction}
 use Rattle.cc_meaning.specs.declared.form.Instruction.TheVariants as instruction
 use Rattle.cc_meaning.specs.internal.Form.{FormTree, unary_code, call_of, joined}
-use Rattle.cc_resolve.specs.Environment.{Environment}
-use Rattle.cc_resolve.specs.Layout.{Layout, extent_of}
+use Rattle.cc_layout.specs.Environment.{Environment}
+use Rattle.cc_layout.specs.Layout.{Layout, extent_of}
 use Rattle.cc_resolve.specs.Operations.{operation}
 use Rattle.cc_c_semantics.specs.Outcome as outcome
 use Rattle.cc_c_semantics.specs.declared.cause.Cause.TheVariants.{Index}

@@ -4,8 +4,8 @@ use Rattle.std.proofs.lemmas.Bool.{lt-ltb}
 use Rattle.cc_words.specs.Widths.{kept}
 use Rattle.cc_meaning.specs.declared.form.Instruction.TheVariants as instruction
 use Rattle.cc_meaning.specs.internal.Form.{FormTree, load}
-use Rattle.cc_resolve.specs.Environment.{Environment, number_in}
-use Rattle.cc_resolve.specs.Layout.{extent_of}
+use Rattle.cc_layout.specs.Environment.{Environment, number_in}
+use Rattle.cc_layout.specs.Layout.{extent_of}
 use Rattle.cc_c_semantics.specs.Meaning.{State, local_word, global_words, with_local_word, with_element, variable_word, stored}
 use Rattle.cc_meaning.specs.internal.FormMeaning.{Activation, Goes, instruction_move, with_word}
 use Rattle.cc_c_semantics.proofs.Named.{there}

@@ -4,8 +4,8 @@ use Rattle.std.proofs.lemmas.Bool.{le-leb}
 use Rattle.cc_meaning.specs.declared.form.Instruction.{Instruction}
 use Rattle.cc_meaning.specs.declared.form.Instruction.TheVariants as instruction
 use Rattle.cc_meaning.specs.internal.Form.{FormTree, turns_code}
-use Rattle.cc_resolve.specs.Environment.{Environment}
-use Rattle.cc_resolve.specs.Layout.{Layout}
+use Rattle.cc_layout.specs.Environment.{Environment}
+use Rattle.cc_layout.specs.Layout.{Layout}
 use Rattle.cc_c_semantics.specs.Outcome as outcome
 use Rattle.cc_c_semantics.specs.Meaning.{State, Run, Gives, Flow, Falls, Breaks, Continues, Returns, then_do, choose, spend_of, behind_body, begin_body, turns}
 use Rattle.cc_meaning.specs.internal.FormMeaning.{Activation, Configuration, Goes, only_if, jump, stepped}

@@ -14,8 +14,8 @@ use Rattle.cc_types.specs.declared.rule.Rule.TheVariants.{BadAssign, Redeclared}
 use Rattle.cc_meaning.specs.declared.form.Instruction.{Instruction}
 use Rattle.cc_meaning.specs.declared.form.Instruction.TheVariants as instruction
 use Rattle.cc_meaning.specs.internal.Form.{FormTree, expression_code, store_of, store_element_of, applied, assignment_code, action_code, optional_action_code, initial_code, declared_code}
-use Rattle.cc_resolve.specs.Environment.{Environment, types_in, with_local, with_locals, number_in}
-use Rattle.cc_resolve.specs.Layout.{Layout, extent_of}
+use Rattle.cc_layout.specs.Environment.{Environment, types_in, with_local, with_locals, number_in}
+use Rattle.cc_layout.specs.Layout.{Layout, extent_of}
 use Rattle.cc_c_semantics.specs.Meaning as meaning
 use Rattle.cc_c_semantics.specs.Meaning.{State, Run, Gives, Flow, Falls, then_do, Calls, with_local_word, with_element, stored, evaluate, evaluate_or, Destination, ToVariable, ToElement, write, new_value, perform, perform_optional, declare}
 use Rattle.cc_meaning.specs.internal.FormMeaning.{Activation, Configuration, Goes, only_if}

@@ -11,8 +11,8 @@ use Rattle.cc_types.specs.Limits.{objects, object_name}
 use Rattle.cc_types.specs.Typed.{IsTyped}
 use Rattle.cc_meaning.specs.declared.form.Entry.{Entry}
 use Rattle.cc_meaning.specs.declared.form.Instruction.{Instruction}
-use Rattle.cc_resolve.specs.Layout.{Layout, LaidObject, laid_from, names_before, layout_of, all_words}
-use Rattle.cc_resolve.specs.Environment.{environment_of}
+use Rattle.cc_layout.specs.Layout.{Layout, LaidObject, laid_from, names_before, layout_of, all_words}
+use Rattle.cc_layout.specs.Environment.{environment_of}
 use Rattle.cc_meaning.specs.internal.Form.{FunctionCode, functions_code, unit_functions, all_code, entries_from, resolved}
 use Rattle.cc_c_semantics.specs.Outcome as outcome
 use Rattle.cc_c_semantics.specs.Meaning.{State, Run, Gives, Going, Wrong, Function, functions_from, functions, function_named, run_body, run_optional, calls, initial_global, initial_globals, outcome_of, source_behavior}

@@ -2,7 +2,7 @@
 -- which comes last.
 use Rattle.std.proofs.Common.{◌≡◌, ℕ, ◌+◌, ◌-◌, List, [], ◌∷◌, ◌++◌, length, set, Option, Result, Ok, Err, OnOk, refl, sym, ap, ◌∙◌, append_assoc}
 use Rattle.cc_ast.specs.Tree.{Target, AtVariable, AtElement}
-use Rattle.cc_resolve.specs.Environment.{Environment}
+use Rattle.cc_layout.specs.Environment.{Environment}
 use Rattle.cc_meaning.specs.internal.Form.{assignment_code}
 use Rattle.cc_meaning.specs.internal.Emitted.{index_code, write_of}
 use Rattle.cc_resolve.specs.declared.operations.BinaryOperation.{BinaryOperation}

@@ -5,7 +5,7 @@ use Rattle.cc_ast.specs.declared.ast.BinaryOperator.{BinaryOperator}
 use Rattle.cc_ast.specs.declared.ast.BinaryOperator.TheVariants as source
 use Rattle.cc_ast.specs.Tree as tree
 use Rattle.cc_ast.specs.Tree.{Name, Expr, Exprs}
-use Rattle.cc_resolve.specs.Environment.{Environment}
+use Rattle.cc_layout.specs.Environment.{Environment}
 use Rattle.cc_meaning.specs.internal.Form.{call_of, joined, expression_code, arguments_code}
 use Rattle.cc_meaning.specs.internal.Emitted.{short_cut, some_code, operated}
 use Rattle.cc_resolve.specs.declared.operations.BinaryOperation.{BinaryOperation}

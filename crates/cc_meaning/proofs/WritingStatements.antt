@@ -9,7 +9,7 @@ use Rattle.cc_ast.specs.declared.ast.Declarator.{Declarator}
 use Rattle.cc_ast.specs.declared.ast.Statement.{Statement}
 use Rattle.cc_meaning.specs.internal.Writing.{exits_of}
 use Rattle.cc_meaning.specs.internal.Form as code
-use Rattle.cc_resolve.specs.Environment.{Environment, with_local, with_locals, behind}
+use Rattle.cc_layout.specs.Environment.{Environment, with_local, with_locals, behind}
 use Rattle.cc_meaning.specs.internal.Form.{further, initial_code, declared_code, exits_of_body, turns_code, statement_code, statements_code}
 use Rattle.cc_meaning.specs.declared.form.Instruction.{Instruction}
 use Rattle.cc_meaning.specs.declared.form.Instruction.TheVariants.{Clear, Step, Repeat}

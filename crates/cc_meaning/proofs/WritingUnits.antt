@@ -3,12 +3,12 @@ use Rattle.std.proofs.Common.{◌≡◌, ℕ, ◌+◌, List, [], ◌∷◌, ◌+
 use Rattle.std.proofs.lemmas.List.{append-nil}
 use Rattle.std.specs.Prelude.{codes}
 use Rattle.cc_ast.specs.Tree.{Signature, External, Declaration, Definition, Objects}
-use Rattle.cc_types.specs.Bindings.{file_level, file_of}
+use Rattle.cc_scope.specs.Bindings.{file_level, file_of}
 use Rattle.cc_types.specs.Limits.{objects, locals}
 use Rattle.cc_types.specs.Scope.{FileScope, first_file_scope, with_function, file_scope_behind}
 use Rattle.cc_types.proofs.FileScopes.{with_objects-same}
-use Rattle.cc_resolve.specs.Layout.{Layout, layout_of, all_words, names_before}
-use Rattle.cc_resolve.specs.Environment.{Environment, environment_of}
+use Rattle.cc_layout.specs.Layout.{Layout, layout_of, all_words, names_before}
+use Rattle.cc_layout.specs.Environment.{Environment, environment_of}
 use Rattle.cc_resolve.proofs.Behind.{some-more}
 use Rattle.cc_meaning.specs.declared.form.Entry.{Entry}
 use Rattle.cc_meaning.specs.declared.form.Instruction.{Instruction}

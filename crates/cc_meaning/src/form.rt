@@ -4,7 +4,8 @@
 // other variables follow, and above them the words of unfinished expressions. A jump's number is how many instructions it skips
 // after itself.
 
-use cc_resolve::{BinaryOperation, Extent, UnaryOperation};
+use cc_layout::Extent;
+use cc_resolve::{BinaryOperation, UnaryOperation};
 
 /// What is written to: a variable of the function, a word of the objects at file scope, or an element of an array.
 #[derive(Clone, Copy)]

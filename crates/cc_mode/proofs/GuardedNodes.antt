@@ -5,9 +5,9 @@ use Rattle.cc_words.specs.declared.operators.Binary as two
 use Rattle.cc_words.specs.declared.operators.Binary.TheVariants.{Add, Sub, Mul, DivS, DivU, RemS, RemU, Shl, ShrS, ShrU, And, Or, Xor, Eq, Ne, LtS, LtU, LeS, LeU}
 use Rattle.cc_words.specs.declared.operators.Width.{Width}
 use Rattle.cc_simulation.specs.World.{Size}
-use Rattle.cc_cminor.specs.Cminor.{Expression, Constant, Local, Unary, Binary, Load, Statement, Skip, Set, Store, Call, Read, Write, Sequence, If, Loop, Block, Exit, Return}
+use Rattle.cc_cminor_language.specs.Cminor.{Expression, Constant, Local, Unary, Binary, Load, Statement, Skip, Set, Store, Call, Read, Write, Sequence, If, Loop, Block, Exit, Return}
 use Rattle.cc_rtl.specs.Size.{into_nodes, operand_nodes, operands_nodes, statement_nodes}
-use Rattle.cc_cminor.specs.Size.{statement_size, partial, partials, all_partials, code_partials}
+use Rattle.cc_cminor_language.specs.Size.{statement_size, partial, partials, all_partials, code_partials}
 use Rattle.cc_rtl.specs.Size.{function_nodes}
 use Rattle.cc_rtl.proofs.Sizes.{nodes_few}
 use Rattle.cc_guard.specs.declared.known.Limit.{Limit}

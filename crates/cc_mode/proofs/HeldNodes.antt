@@ -1,8 +1,8 @@
 -- Words that are held in variables cost at most one node each.
 use Rattle.std.proofs.Common.{◌≡◌, ◌==◌, ℕ, suc, ◌+◌, ◌≤◌, Bool, true, false, List, [], ◌∷◌, length, inl, inr, sym, ap, subst, arith}
 use Rattle.std.specs.Prelude.{if◌then◌else◌}
-use Rattle.cc_cminor.specs.Cminor.{Expression, Constant, Local, Unary, Binary, Load, Statement, Skip, Set, Store, Call, Read, Write, Sequence, If, Loop, Block, Exit, Return}
-use Rattle.cc_cminor.specs.Variables.{above_statement}
+use Rattle.cc_cminor_language.specs.Cminor.{Expression, Constant, Local, Unary, Binary, Load, Statement, Skip, Set, Store, Call, Read, Write, Sequence, If, Loop, Block, Exit, Return}
+use Rattle.cc_cminor_language.specs.Variables.{above_statement}
 use Rattle.cc_rtl.specs.Size.{operand_nodes, statement_nodes, function_nodes}
 use Rattle.cc_guard.specs.Held.{held_word, held_operand, held_test, held_in, put_first, with_words, Holding, IsHeld}
 

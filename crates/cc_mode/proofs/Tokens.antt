@@ -6,10 +6,10 @@ use Rattle.std.proofs.lemmas.Bool.Decides.{nat_tests}
 use Rattle.cc_ast.specs.Tree.{External}
 use Rattle.cc_c_semantics.specs.declared.mode.Mode.TheVariants.{Plain, Checked}
 use Rattle.cc_simulation.specs.World.{Size}
-use Rattle.cc_cminor.specs.Cminor.{Expression, Constant, Local, Unary, Binary, Load, Statement, Skip, Set, Store, Call, Read, Write, Sequence, If, Loop, Block, Exit, Return}
-use Rattle.cc_cminor.specs.Numbers.{ExpressionBelow, ExpressionsBelow, ResultBelow, StatementBelow}
-use Rattle.cc_cminor.specs.Size.{AtMostTwelveAToken, AtMostOnePartialAToken}
-use Rattle.cc_cminor.specs.Variables.{above, above_result, above_expression, above_expressions, above_statement}
+use Rattle.cc_cminor_language.specs.Cminor.{Expression, Constant, Local, Unary, Binary, Load, Statement, Skip, Set, Store, Call, Read, Write, Sequence, If, Loop, Block, Exit, Return}
+use Rattle.cc_cminor_language.specs.Numbers.{ExpressionBelow, ExpressionsBelow, ResultBelow, StatementBelow}
+use Rattle.cc_cminor_language.specs.Size.{AtMostTwelveAToken, AtMostOnePartialAToken}
+use Rattle.cc_cminor_language.specs.Variables.{above, above_result, above_expression, above_expressions, above_statement}
 use Rattle.cc_guard.specs.Guard.{guarded_function, variables_in}
 use Rattle.cc_guard.specs.Held.{IsHeld}
 use Rattle.cc_guard.specs.Laws.{GuardsSetFew}

@@ -2,17 +2,17 @@
 
 ghost use Rattle.std.specs.Prelude.{◌≡◌, ◌<◌, IfOk, IfErr};
 ghost use Rattle.cc_c_semantics.specs.declared.mode.Mode.TheVariants.{Plain, Checked};
-ghost use Rattle.cc_cminor.specs.Exits.{ExitsFit};
-ghost use Rattle.cc_cminor.specs.Numbers.{most_lowered, StatementBelow};
-ghost use Rattle.cc_cminor.specs.Pair.{tree_of, code_of, FailsAlike};
-ghost use Rattle.cc_cminor.specs.Size.{AtMostTwelveAToken, AtMostOnePartialAToken};
+ghost use Rattle.cc_cminor_language.specs.Exits.{ExitsFit};
+ghost use Rattle.cc_cminor_language.specs.Numbers.{most_lowered, StatementBelow};
+ghost use Rattle.cc_cminor_language.specs.Pair.{tree_of, code_of, FailsAlike};
+ghost use Rattle.cc_cminor_language.specs.Size.{AtMostTwelveAToken, AtMostOnePartialAToken};
 ghost use Rattle.cc_rtl_language.specs.Rtl.{most_nodes};
 ghost use Rattle.cc_rtl.specs.Size.{function_nodes};
-ghost use Rattle.cc_cminor.specs.declared.fault.CodeFault.TheVariants.{FunctionTooLarge};
+ghost use Rattle.cc_cminor_language.specs.declared.fault.CodeFault.TheVariants.{FunctionTooLarge};
 ghost use Rattle.cc_mode.specs.Long.{IsLongIn};
 
 use cc_c_semantics::Mode;
-use cc_cminor::CminorPair;
+use cc_cminor_language::CminorPair;
 use cc_guard::{guard, guards_set_few};
 use cc_rtl::RtlFault;
 use std::alloc::Global;

@@ -3,14 +3,14 @@
 use Rattle.std.proofs.Common.{◌≡◌, ℕ, suc, ◌+◌, ◌-◌, ◌<◌, ◌≤◌, List, [], ◌∷◌, ◌++◌, length, map, replicate, Some, None, refl, sym, ap, ◌∙◌, append_assoc, arith}
 use Rattle.cc_ast.specs.scalar.Scalar.{Scalar}
 use Rattle.cc_ast.specs.Tree.{Name, Parameter, Object, External, Declaration, Definition, Objects}
-use Rattle.cc_types.specs.Bindings.{closed, file_level, file_of}
+use Rattle.cc_scope.specs.Bindings.{closed, file_level, file_of}
 use Rattle.cc_types.specs.internal.Externals.{defined_in, objects_in}
 use Rattle.cc_types.specs.Limits.{objects, object_name, function_names}
 use Rattle.cc_types.specs.Scope.{Binding, with_object, with_objects, parameter_declared, parameters_declared}
 use Rattle.cc_types.specs.Types.{object_elements, object_width, initial_words}
 use Rattle.cc_types.proofs.FileScopes.{with_objects-same, parameters_declared-outer}
-use Rattle.cc_resolve.specs.Layout.{LaidObject, Layout, laid_from, all_words}
-use Rattle.cc_resolve.specs.Environment.{Environment, parameter_names}
+use Rattle.cc_layout.specs.Layout.{LaidObject, Layout, laid_from, all_words}
+use Rattle.cc_layout.specs.Environment.{Environment, parameter_names}
 use Rattle.cc_resolve.specs.internal.Laying.{offset_behind}
 
 -- ---- lists

@@ -4,12 +4,12 @@ use Rattle.cc_ast.specs.scalar.Scalar.{Scalar}
 use Rattle.cc_ast.specs.Erase.{external_trees}
 use Rattle.cc_ast.specs.declared.ast.External as declared
 use Rattle.cc_ast.specs.Tree.{Stmts, Signature, Object, External, Declaration, Definition, Objects}
-use Rattle.cc_types.specs.Bindings.{file_level, file_of}
+use Rattle.cc_scope.specs.Bindings.{file_level, file_of}
 use Rattle.cc_types.specs.Scope.{FileScope, first_file_scope, with_function, with_objects, file_scope_behind}
 use Rattle.cc_types.specs.Typed.{definitions}
 use Rattle.cc_types.proofs.FileScopes.{with_objects-same}
-use Rattle.cc_resolve.specs.Layout.{Layout, layout_of}
-use Rattle.cc_resolve.specs.Environment.{Environment, environment_of, environments_from, environments}
+use Rattle.cc_layout.specs.Layout.{Layout, layout_of}
+use Rattle.cc_layout.specs.Environment.{Environment, environment_of, environments_from, environments}
 
 -- what file scope has declared after an external declaration depends only on what it had declared before it
 pub behind-bindings : (e : External) (g h : FileScope) → g.bindings ≡ h.bindings → (file_scope_behind e g).bindings ≡ (file_scope_behind e h).bindings

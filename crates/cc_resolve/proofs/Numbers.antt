@@ -2,17 +2,17 @@
 use Rattle.std.proofs.Common.{◌≡◌, ℕ, suc, ◌+◌, ◌<◌, Bool, true, false, cond, List, [], ◌∷◌, ◌++◌, length, Option, Some, None, is_some, option_map, Result, Ok, Err, OnOk, is_err, refl, sym, ap, ◌∙◌, Bor, get_or, nat_eq, arith}
 use Rattle.std.proofs.lemmas.List.{map-append}
 use Rattle.std.specs.Cmp.Lexicographic.{bytes_decides}
-use Rattle.cc_types.proofs.NameNumbers.{at-numbered, rest-numbered, at-changed, rest-changed}
-use Rattle.cc_types.specs.Numberings.{IsNumbered, number_of_name, at_number}
+use Rattle.cc_scope.proofs.NameNumbers.{at-numbered, rest-numbered, at-changed, rest-changed}
+use Rattle.cc_scope.specs.Numberings.{IsNumbered, number_of_name, at_number}
 use Rattle.cc_types.specs.Names.{same_name}
-use Rattle.cc_types.specs.Entities.{names_in}
+use Rattle.cc_scope.specs.Entities.{names_in}
 use Rattle.cc_types.specs.Scope as scope
-use Rattle.cc_types.specs.Bindings as bindings
+use Rattle.cc_scope.specs.Bindings as bindings
 use Rattle.cc_words.specs.declared.operators.Width.TheVariants.{Word}
 use Rattle.cc_resolve.specs.Numberings.{first_of, ArePlaces, laid_objects, local_names}
-use Rattle.cc_resolve.specs.Layout.{LaidObject, extent_of, object_number, names_before}
-use Rattle.cc_resolve.specs.Environment.{number_in}
-use Rattle.cc_resolve.specs.declared.layout.Extent.{Extent}
+use Rattle.cc_layout.specs.Layout.{LaidObject, extent_of, object_number, names_before}
+use Rattle.cc_layout.specs.Environment.{number_in}
+use Rattle.cc_layout.specs.declared.layout.Extent.{Extent}
 
 -- ---- a name is added
 

@@ -1,7 +1,3 @@
--- the positions of objects, and the numbers of functions
-pub mod Layout
--- which local a name refers to, and the environment of a statement
-pub mod Environment
 -- the operation on words that an operator performs in its type
 pub mod Operations
 -- how the code stores the names of objects and functions

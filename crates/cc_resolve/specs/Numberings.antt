@@ -2,11 +2,11 @@
 use Rattle.std.specs.Prelude.{ℕ, suc, ◌≡◌, ◌≤◌, List, [], ◌∷◌, length, map, Option, Some, None, if◌then◌else◌, option_map}
 use Rattle.std.specs.Borrow.{Bor}
 use Rattle.cc_types.specs.Names.{same_name}
-use Rattle.cc_types.specs.Numberings.{AreNumbers, number_of_name, at_number}
-use Rattle.cc_types.specs.Entities.{names_in}
-use Rattle.cc_resolve.specs.Layout.{LaidObject}
+use Rattle.cc_scope.specs.Numberings.{AreNumbers, number_of_name, at_number}
+use Rattle.cc_scope.specs.Entities.{names_in}
+use Rattle.cc_layout.specs.Layout.{LaidObject}
 use Rattle.cc_types.specs.Scope as scope
-use Rattle.cc_resolve.specs.declared.layout.Extent.{Extent}
+use Rattle.cc_layout.specs.declared.layout.Extent.{Extent}
 
 -- how many names precede the first place of a name in the list, or None if it is not in the list
 abbrev pub first_of : List (List ℕ) → List ℕ → Option ℕ

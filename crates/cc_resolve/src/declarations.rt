@@ -2,7 +2,7 @@
 
 ghost use Rattle.std.specs.Prelude.{◌≡◌, OnOk};
 ghost use Rattle.cc_ast.specs.Erase.{declarator_trees, beginning_tree, statement_tree};
-ghost use Rattle.cc_resolve.specs.Environment.{with_locals, behind, behind_beginning};
+ghost use Rattle.cc_layout.specs.Environment.{with_locals, behind, behind_beginning};
 
 use super::environment::Environment;
 use cc_ast::{Beginning, Declarator, Scalar, Statement};

@@ -3,15 +3,16 @@
 ghost use Rattle.std.specs.Prelude.{◌≡◌, ◌≤◌, [], ◌∷◌, length, drop, None, Some, IfOk, OnOk};
 ghost use Rattle.cc_ast.specs.Erase.{parameter_tree};
 ghost use Rattle.cc_types.specs.Scope.{parameter_declared, with_declared, first_file_scope, found};
-ghost use Rattle.cc_types.specs.Entities.{entity_of};
-ghost use Rattle.cc_types.specs.Bindings.{closed, file_level};
+ghost use Rattle.cc_scope.specs.Entities.{entity_of};
+ghost use Rattle.cc_scope.specs.Bindings.{closed, file_level};
 ghost use Rattle.cc_types.specs.Types.{variable_type, element_type, result_type, or_int};
-ghost use Rattle.cc_resolve.specs.Environment.{inner, number_in, with_local, types_in};
-ghost use Rattle.cc_resolve.specs.Layout.{callee, extent_of, object_number};
+ghost use Rattle.cc_layout.specs.Environment.{inner, number_in, with_local, types_in};
+ghost use Rattle.cc_layout.specs.Layout.{callee, extent_of, object_number};
 
-use super::layout::{Callee, Extent, Layout};
+use super::layout::Layout;
 use cc_ast::{Parameter, Scalar};
-use cc_types::{Bindings, Entity, Scope};
+use cc_layout::{Callee, Extent};
+use cc_scope::{Bindings, Entity, Scope};
 use std::alloc::{AllocError, Global};
 use std::marker::Model;
 
@@ -26,7 +27,7 @@ pub struct Environment<'a> {
 }
 
 impl<'a> Model for Environment<'a> {
-    ghost use Rattle.cc_resolve.specs.Environment as environment;
+    ghost use Rattle.cc_layout.specs.Environment as environment;
     ghost use Rattle.cc_resolve.specs.Numberings.{local_names};
 
     ghost Value = { environment.Environment };

@@ -1,34 +1,14 @@
 // What the names of file scope refer to: the objects' words, and the functions' numbers.
 
 ghost use Rattle.std.specs.Prelude.{◌≡◌, [], ◌∷◌, ◌++◌, length, OnOk};
-ghost use Rattle.cc_resolve.specs.Layout.{callee, extent_of, names_before, object_number};
+ghost use Rattle.cc_layout.specs.Layout.{callee, extent_of, names_before, object_number};
 
 use super::places::Places;
-use cc_types::{READ_WORD, WRITE_WORD};
+use cc_layout::{Callee, Extent};
+use cc_scope::{READ_WORD, WRITE_WORD};
 use cc_words::Width;
 use std::alloc::{AllocError, Global};
 use std::marker::Model;
-
-/// Where an object's words are in the list of all objects' words, which has one word for each element: the index of the first
-/// word, the number of words, and how wide the elements are.
-#[derive(Clone, Copy)]
-pub struct Extent {
-    pub offset: usize,
-    pub length: usize,
-    pub width: Width,
-}
-
-/// What a called name refers to.
-#[derive(Clone, Copy)]
-pub enum Callee {
-    /// The builtin `write_word`.
-    WriteWord,
-    /// The builtin `read_word`.
-    ReadWord,
-    /// The function with this number, in the order of definitions. If no function has the name, the number is how many
-    /// functions there are.
-    Defined(usize),
-}
 
 const NOWHERE: Extent = Extent {
     offset: 0,
@@ -56,7 +36,7 @@ impl Drop for Layout<'_> {
 
 impl<'a> Model for Layout<'a> {
     ghost use Rattle.std.specs.Prelude.{◌≡◌, length};
-    ghost use Rattle.cc_resolve.specs.Layout as layout;
+    ghost use Rattle.cc_layout.specs.Layout as layout;
     ghost use Rattle.cc_resolve.specs.Numberings.{laid_objects};
 
     ghost Value = { layout.Layout };

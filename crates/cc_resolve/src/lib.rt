@@ -18,7 +18,7 @@ mod units;
 
 pub use declarations::{declare_beginning, declare_locals, declare_statement};
 pub use environment::Environment;
-pub use layout::{Callee, Extent, Layout};
-pub use objects::{add_words, declare_objects, object_width};
+pub use layout::Layout;
+pub use objects::{add_words, declare_objects};
 pub use operations::{BinaryOperation, UnaryOperation, operation, unary_operation};
 pub use units::{declare_function, enter_function, function_environment, lay_out, leave_function};

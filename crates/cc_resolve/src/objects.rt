@@ -3,18 +3,19 @@
 ghost use Rattle.std.specs.Prelude.{◌≡◌, ◌≤◌, ◌+◌, ◌%◌, ◌^◌, [], ◌∷◌, ◌++◌, Some, length, map, replicate, OnOk, IfOk};
 ghost use Rattle.cc_ast.specs.Erase.{constant_tree, constant_trees, optional_constant, object_tree, object_trees};
 ghost use Rattle.cc_ast.specs.Tree as tree;
-ghost use Rattle.cc_types.specs.Bindings.{file_level, file_of};
+ghost use Rattle.cc_scope.specs.Bindings.{file_level, file_of};
 ghost use Rattle.cc_types.specs.Limits.{object_name};
-ghost use Rattle.cc_resolve.specs.Layout.{laid_from, all_words};
+ghost use Rattle.cc_layout.specs.Layout.{laid_from, all_words};
 ghost use Rattle.cc_resolve.specs.internal.Laying.{offset_behind};
 ghost use Rattle.cc_types.specs.Scope.{with_object, with_objects};
 ghost use Rattle.cc_types.specs.Types.{initial_word, initial_words, object_elements, object_width};
 
 use super::environment::Environment;
-use super::layout::{Extent, Layout};
+use super::layout::Layout;
 use cc_ast::{ConstantExpression, Object, Scalar};
-use cc_types::{Entity, array_length, constant_word, object_elements};
-use cc_words::Width;
+use cc_layout::{Extent, object_width};
+use cc_scope::Entity;
+use cc_types::{array_length, constant_word, object_elements};
 use std::alloc::AllocError;
 
 // ---- words
@@ -91,16 +92,6 @@ pub fn add_words(words: &mut Vec<u32>, tree: &Object) -> Result<(), AllocError>
 }
 
 // ---- offsets
-
-/// How wide an object's elements are.
-pub fn object_width(tree: &Object) -> Width
-    ensures { result ≡ object_width (object_tree tree.now) }
-{
-    match tree {
-        Object::Single(_, _) | Object::Array(_, _, _) => Width::Word,
-        Object::Bytes(_, _, _) => Width::Byte,
-    }
-}
 
 fn object_name(tree: &Object) -> &[u8]
     ensures { result.now ≡ (object_name (object_tree tree.now)).text }

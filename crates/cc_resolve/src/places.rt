@@ -6,7 +6,7 @@
 ghost use Rattle.std.specs.Prelude.{◌≡◌, [], ◌∷◌, ◌++◌, length, OnOk, OnErr};
 ghost use Rattle.cc_resolve.specs.Numberings.{first_of};
 
-use cc_types::Numbering;
+use cc_scope::Numbering;
 use indexmap::IndexMap;
 use std::alloc::{AllocError, Global};
 use std::marker::Model;
@@ -22,7 +22,7 @@ pub struct Places<'a> {
 impl<'a> Model for Places<'a> {
     ghost use Rattle.std.specs.Prelude.{List, ℕ, nat_eq};
     ghost use Rattle.indexmap.specs.IndexMap.{get};
-    ghost use Rattle.cc_types.specs.Entities.{names_in};
+    ghost use Rattle.cc_scope.specs.Entities.{names_in};
     ghost use Rattle.cc_resolve.specs.Numberings.{ArePlaces};
 
     ghost Value = { List (List ℕ) };

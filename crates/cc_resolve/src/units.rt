@@ -4,20 +4,21 @@ ghost use Rattle.std.specs.Prelude.{◌≡◌, ◌<◌, ◌≤◌, [], ◌++◌,
 ghost use Rattle.cc_ast.specs.Erase.{parameter_trees, signature_tree, external_tree, external_trees};
 ghost use Rattle.cc_ast.specs.Source.{source};
 ghost use Rattle.cc_ast.specs.Tree as tree;
-ghost use Rattle.cc_types.specs.Bindings.{file_level, file_of};
+ghost use Rattle.cc_scope.specs.Bindings.{file_level, file_of};
 ghost use Rattle.cc_types.specs.internal.Externals.{defined_in, objects_in};
 ghost use Rattle.cc_types.specs.Limits.{objects};
 ghost use Rattle.cc_types.specs.Scope.{FileScope, first_file_scope, parameters_declared, with_function};
 ghost use Rattle.cc_types.specs.Typed.{defined_names, definitions};
-ghost use Rattle.cc_resolve.specs.Environment.{parameter_names, environment_of, environments};
-ghost use Rattle.cc_resolve.specs.Layout.{Layout, laid_from, layout_of, all_words};
+ghost use Rattle.cc_layout.specs.Environment.{parameter_names, environment_of, environments};
+ghost use Rattle.cc_layout.specs.Layout.{Layout, laid_from, layout_of, all_words};
 ghost use Rattle.cc_resolve.specs.internal.Laying.{offset_behind};
 
 use super::environment::Environment;
 use super::layout::Layout;
 use super::objects::{add_objects, declare_objects};
 use cc_ast::{External, Parameter, Signature};
-use cc_types::{Entity, TypedUnit};
+use cc_scope::Entity;
+use cc_types::TypedUnit;
 use std::alloc::{AllocError, Global};
 
 // Brings the parameters of a function into scope.

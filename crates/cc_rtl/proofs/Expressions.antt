@@ -6,7 +6,7 @@ use Rattle.cc_simulation.specs.World.{World, element}
 use Rattle.cc_simulation.specs.Run.{Goes, tried}
 use Rattle.cc_simulation.specs.internal.Simulation as ways
 use Rattle.cc_simulation.proofs.Simulating as simulating
-use Rattle.cc_cminor.specs.Cminor.{Expression, Constant, Local, Unary, Binary, Load, then_value, value, values}
+use Rattle.cc_cminor_language.specs.Cminor.{Expression, Constant, Local, Unary, Binary, Load, then_value, value, values}
 use Rattle.cc_rtl_language.specs.Rtl as rtl
 use Rattle.cc_rtl_language.specs.Rtl.{Registers, Configuration, at, put, node_move, rtl_output}
 use Rattle.cc_rtl_language.specs.internal.Moves.{Graph, graph_move}

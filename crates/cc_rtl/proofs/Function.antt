@@ -4,7 +4,7 @@ use Rattle.std.proofs.Common.{◌≡◌, ℕ, zero, suc, ◌+◌, ◌-◌, ◌<�
 use Rattle.cc_simulation.specs.Meaning.{Meaning}
 use Rattle.cc_simulation.specs.Tracks.{Tracks}
 use Rattle.cc_simulation.proofs.Simulating.{coarser}
-use Rattle.cc_cminor.specs.Cminor.{Statement, cminor_move, cminor_output, cminor_start}
+use Rattle.cc_cminor_language.specs.Cminor.{Statement, cminor_move, cminor_output, cminor_start}
 use Rattle.cc_rtl_language.specs.Rtl as rtl
 use Rattle.cc_rtl_language.specs.Rtl.{rtl_move, rtl_output, rtl_start}
 use Rattle.cc_rtl.specs.internal.Translates.{IsCodeOf}

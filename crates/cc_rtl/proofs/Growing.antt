@@ -1,6 +1,6 @@
 -- A translation stays right when nodes are added.
 use Rattle.std.proofs.Common.{◌≡◌, ℕ, suc, List, [], ◌∷◌, inl, inr, Option, Some, None}
-use Rattle.cc_cminor.specs.Cminor.{Expression, Constant, Local, Unary, Binary, Load, Statement, Skip, Set, Store, Call, Read, Write, Sequence, If, Loop, Block, Exit, Return}
+use Rattle.cc_cminor_language.specs.Cminor.{Expression, Constant, Local, Unary, Binary, Load, Statement, Skip, Set, Store, Call, Read, Write, Sequence, If, Loop, Block, Exit, Return}
 use Rattle.cc_rtl_language.specs.Rtl as rtl
 use Rattle.cc_rtl_language.specs.internal.Moves.{Graph}
 use Rattle.cc_rtl.specs.internal.Translates.{Held, Into, Operand, Operands, Takes, Translates, Finishes}

@@ -2,7 +2,7 @@
 -- a nop, each node leads to nodes, and none leads to the entry.
 use Rattle.std.proofs.Common.{◌≡◌, ◌≢◌, ℕ, zero, suc, ◌-◌, ◌<◌, ◌≤◌, List, [], ◌∷◌, length, map, Contains, IsSome, refl, sym, ap, ◌∙◌, subst, arith, Some}
 use Rattle.std.specs.Prelude.{is_some}
-use Rattle.cc_cminor.specs.Cminor.{Statement}
+use Rattle.cc_cminor_language.specs.Cminor.{Statement}
 use Rattle.cc_rtl_language.specs.Rtl as rtl
 use Rattle.cc_rtl.specs.Size.{function_nodes}
 use Rattle.cc_rtl.specs.internal.Generate.{IsFormed, renamed, labelled_from, nodes_back, generated_rtl}

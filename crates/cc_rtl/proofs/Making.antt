@@ -6,12 +6,12 @@ use Rattle.std.proofs.lemmas.Bool.Decides.{Decides-eqb}
 use Rattle.std.proofs.lemmas.List.{length-reverse, get_or-reverse}
 use denote.Param.Weighed.{most, at_most}
 use Rattle.std.proofs.lemmas.Grind.{reverse_onto}
-use Rattle.cc_cminor.specs.Code.{expression_of, expressions_of, statement_of, statements_in, in_sequence}
-use Rattle.cc_cminor.specs.internal.Statements.{statements_of}
-use Rattle.cc_cminor.specs.Numbers.{most_variables, ExpressionBelow, ExpressionsBelow, StatementFits}
-use Rattle.cc_cminor.specs.declared.code.Expression.{Expression}
-use Rattle.cc_cminor.specs.declared.code.Statement as written
-use Rattle.cc_cminor.specs.declared.code.Statement.{Statement, Row_of-Statement, end_of-Statement, more_of-Statement, items-the_row-Statement}
+use Rattle.cc_cminor_language.specs.Code.{expression_of, expressions_of, statement_of, statements_in, in_sequence}
+use Rattle.cc_cminor_language.specs.Statements.{statements_of}
+use Rattle.cc_cminor_language.specs.Numbers.{most_variables, ExpressionBelow, ExpressionsBelow, StatementFits}
+use Rattle.cc_cminor_language.specs.declared.code.Expression.{Expression}
+use Rattle.cc_cminor_language.specs.declared.code.Statement as written
+use Rattle.cc_cminor_language.specs.declared.code.Statement.{Statement, Row_of-Statement, end_of-Statement, more_of-Statement, items-the_row-Statement}
 use Rattle.cc_rtl_language.specs.Rtl as rtl
 use Rattle.cc_rtl_language.specs.Rtl.{most_nodes}
 use Rattle.cc_rtl_language.specs.Code.{node_of, labelled_of}

@@ -6,15 +6,15 @@ use Rattle.cc_c_semantics.specs.Meaning.{functions}
 use Rattle.cc_c_semantics.specs.Resolved.{arities}
 use Rattle.cc_c_semantics.specs.declared.mode.Mode.{Mode}
 use Rattle.cc_simulation.proofs.Simulating.{coarser}
-use Rattle.cc_cminor.specs.Code.{statement_of}
-use Rattle.cc_cminor.specs.Pair as cminor
-use Rattle.cc_cminor.specs.declared.code.Statement as written
+use Rattle.cc_cminor_language.specs.Code.{statement_of}
+use Rattle.cc_cminor_language.specs.Pair as cminor
+use Rattle.cc_cminor_language.specs.declared.code.Statement as written
 use Rattle.cc_rtl_language.specs.Rtl as rtl
 use Rattle.cc_rtl_language.specs.Pair.{IsPair, AreCalls, KeepsUp}
 use Rattle.cc_rtl.specs.Size.{function_nodes}
 use Rattle.cc_rtl.specs.internal.Generate.{IsFormed, generated_rtl}
 use Rattle.cc_rtl.specs.internal.Generating.{generated_nodes}
-use Rattle.cc_cminor.specs.Variables.{above_statement}
+use Rattle.cc_cminor_language.specs.Variables.{above_statement}
 use Rattle.cc_rtl.proofs.Called.{generated_calls}
 use Rattle.cc_rtl.proofs.Function.{generated_tracks}
 use Rattle.cc_rtl.proofs.Kept.{many, is_rtl}

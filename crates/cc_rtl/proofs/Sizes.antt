@@ -1,14 +1,14 @@
 -- Counts over a sequence, compared with the number of statements and expressions.
 use Rattle.std.proofs.Common.{◌≡◌, ℕ, suc, ◌+◌, ◌<◌, ◌≤◌, List, [], ◌∷◌, drop, length, get_or, drop-cons, refl, sym, ap, ◌∙◌, subst, arith, rules, Option, Some, None}
-use Rattle.cc_cminor.specs.Cminor as cminor
-use Rattle.cc_cminor.specs.Code.{expression_of, expressions_of, statement_of, statements_in, in_sequence}
-use Rattle.cc_cminor.specs.internal.Statements.{statements_of}
-use Rattle.cc_cminor.specs.declared.code.Expression.{Expression}
-use Rattle.cc_cminor.specs.declared.code.Statement as written
-use Rattle.cc_cminor.specs.declared.code.Statement.{Statement, Row_of-Statement, end_of-Statement, more_of-Statement, items-the_row-Statement}
-use Rattle.cc_cminor.specs.Size.{expression_size, expressions_size, statement_size}
+use Rattle.cc_cminor_language.specs.Cminor as cminor
+use Rattle.cc_cminor_language.specs.Code.{expression_of, expressions_of, statement_of, statements_in, in_sequence}
+use Rattle.cc_cminor_language.specs.Statements.{statements_of}
+use Rattle.cc_cminor_language.specs.declared.code.Expression.{Expression}
+use Rattle.cc_cminor_language.specs.declared.code.Statement as written
+use Rattle.cc_cminor_language.specs.declared.code.Statement.{Statement, Row_of-Statement, end_of-Statement, more_of-Statement, items-the_row-Statement}
+use Rattle.cc_cminor_language.specs.Size.{expression_size, expressions_size, statement_size}
 use Rattle.cc_rtl.specs.Size.{variable_of, kept_by, into_nodes, operand_nodes, operands_nodes, statement_nodes}
-use Rattle.cc_cminor.specs.Variables.{above, above_result, above_expression, above_expressions, above_statement}
+use Rattle.cc_cminor_language.specs.Variables.{above, above_result, above_expression, above_expressions, above_statement}
 use Rattle.cc_rtl.specs.internal.Generate.{Uses, AllUse, IsFormed}
 use Rattle.std.proofs.lemmas.Bool.Decides.{nat_tests}
 

@@ -4,7 +4,7 @@ use Rattle.std.proofs.lemmas.Bool.Decides.{nat_tests}
 use Rattle.cc_simulation.specs.World.{World, next_word, stored, after_read, after_write}
 use Rattle.cc_simulation.specs.Run.{Goes, Calls, Returns, tried}
 use Rattle.cc_simulation.specs.internal.Simulation.{Advances, Simulation}
-use Rattle.cc_cminor.specs.Cminor.{Statement, Skip, Set, Store, Call, Read, Write, Sequence, If, Loop, Block, Exit, Return, value, values, Continuation, Ends, Then, Again, Leaving, Config, config, put, put_result, chosen, moves, cminor_move, cminor_output}
+use Rattle.cc_cminor_language.specs.Cminor.{Statement, Skip, Set, Store, Call, Read, Write, Sequence, If, Loop, Block, Exit, Return, value, values, Continuation, Ends, Then, Again, Leaving, Config, config, put, put_result, chosen, moves, cminor_move, cminor_output}
 use Rattle.cc_rtl_language.specs.Rtl as rtl
 use Rattle.cc_rtl_language.specs.Rtl.{Registers, Configuration, at, answered, branched, node_move, rtl_output}
 use Rattle.cc_rtl_language.specs.internal.Moves.{Graph, graph_move}

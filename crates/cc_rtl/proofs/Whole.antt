@@ -7,7 +7,7 @@ use Rattle.cc_simulation.specs.Run.{Move, Goes, run, work, act, work_act, tried}
 use Rattle.cc_simulation.specs.Meaning.{Meaning, call_effect}
 use Rattle.cc_simulation.specs.Tracks.{Keeps, Tracks}
 use Rattle.cc_simulation.proofs.Simulating.{tracks_on, coarser}
-use Rattle.cc_cminor.specs.Cminor.{Statement, cminor_move, cminor_output, cminor_start}
+use Rattle.cc_cminor_language.specs.Cminor.{Statement, cminor_move, cminor_output, cminor_start}
 use Rattle.cc_rtl_language.specs.Rtl.{at, node_move, rtl_output}
 use Rattle.cc_rtl_language.specs.internal.Moves.{Graph, graph_move}
 use Rattle.cc_rtl.specs.internal.Translates.{IsCodeOf}

@@ -8,14 +8,14 @@ mod graph;
 mod statements;
 
 ghost use Rattle.std.specs.Prelude.{◌≡◌, ◌≤◌, IfOk};
-ghost use Rattle.cc_cminor.specs.Code.{statement_of};
-ghost use Rattle.cc_cminor.specs.Numbers.{most_variables, StatementFits};
+ghost use Rattle.cc_cminor_language.specs.Code.{statement_of};
+ghost use Rattle.cc_cminor_language.specs.Numbers.{most_variables, StatementFits};
 ghost use Rattle.cc_rtl_language.specs.Rtl.{most_nodes};
 ghost use Rattle.cc_rtl_language.specs.Code.{labelled_of};
 ghost use Rattle.cc_rtl.specs.Size.{function_nodes};
 ghost use Rattle.cc_rtl.specs.internal.Generating.{generated_nodes};
 
-use cc_cminor::Statement;
+use cc_cminor_language::Statement;
 use cc_instr_list::InstrList;
 use cc_rtl_language::Node;
 use graph::Graph;

@@ -8,6 +8,6 @@ mod generate;
 mod size;
 mod translate;
 
-pub use cc_cminor::CodeFault as RtlFault;
+pub use cc_cminor_language::CodeFault as RtlFault;
 pub use cc_rtl_language::{Node, Rtl, RtlPair, rtl_is_a_layer};
 pub use translate::to_rtl;

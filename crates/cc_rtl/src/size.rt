@@ -1,12 +1,12 @@
 // How many nodes a body needs. They are counted before any node is made: a body is refused exactly if it needs too many.
 
 ghost use Rattle.std.specs.Prelude.{◌≡◌, ◌+◌, ◌<◌, ◌≤◌, IsTrue, IsFalse, MatchOption};
-ghost use Rattle.cc_cminor.specs.Code.{expression_of, expressions_of, statement_of, in_sequence};
-ghost use Rattle.cc_cminor.specs.internal.Statements.{statements_of};
+ghost use Rattle.cc_cminor_language.specs.Code.{expression_of, expressions_of, statement_of, in_sequence};
+ghost use Rattle.cc_cminor_language.specs.Statements.{statements_of};
 ghost use Rattle.cc_rtl_language.specs.Rtl.{most_nodes};
 ghost use Rattle.cc_rtl.specs.Size.{into_nodes, operand_nodes, operands_nodes, statement_nodes, function_nodes};
 
-use cc_cminor::{Expression, Statement};
+use cc_cminor_language::{Expression, Statement};
 
 // How much room for nodes is left after those that put an expression into a register; `None` if they do not fit.
 #[cycle(values)]

@@ -2,16 +2,16 @@
 
 ghost use Rattle.std.specs.Prelude.{◌≡◌, ◌≤◌, ◌<◌, length, Some, slice_get, IfOk, IfErr};
 ghost use Rattle.cc_c_semantics.specs.Resolved.{arities};
-ghost use Rattle.cc_cminor.specs.Pair.{tree_of as cminor_tree, code_of};
-ghost use Rattle.cc_cminor.specs.Size.{statement_size};
-ghost use Rattle.cc_cminor.specs.declared.fault.CodeFault.TheVariants.{FunctionTooLarge};
+ghost use Rattle.cc_cminor_language.specs.Pair.{tree_of as cminor_tree, code_of};
+ghost use Rattle.cc_cminor_language.specs.Size.{statement_size};
+ghost use Rattle.cc_cminor_language.specs.declared.fault.CodeFault.TheVariants.{FunctionTooLarge};
 ghost use Rattle.cc_rtl_language.specs.Rtl.{most_nodes};
 ghost use Rattle.cc_rtl.specs.Size.{function_nodes};
 
 use crate::generate::generate;
 use crate::size::fits;
 use cc_c_semantics::functions_are_resolved;
-use cc_cminor::{CminorPair, CodeFault as RtlFault, variables_above};
+use cc_cminor_language::{CminorPair, CodeFault as RtlFault, variables_above};
 use cc_rtl_language::{Rtl, RtlPair};
 use cc_types::TypedUnit;
 use std::alloc::Global;

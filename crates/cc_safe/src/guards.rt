@@ -3,7 +3,7 @@
 ghost use Rattle.std.specs.Prelude.{◌≡◌, ◌<◌, [], false, length, IfOk};
 ghost use Rattle.std.specs.Arc.{arc_value};
 ghost use Rattle.cc_ast.specs.Source.{source};
-ghost use Rattle.cc_cminor.specs.Cminor.{Statement};
+ghost use Rattle.cc_cminor_language.specs.Cminor.{Statement};
 ghost use Rattle.cc_guard.specs.Safe.{NeedsNoGuard, NoneNeedsGuard};
 ghost use Rattle.cc_types.specs.Typed.{defined_names};
 

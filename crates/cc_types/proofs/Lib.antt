@@ -1,13 +1,5 @@
--- a look-up in a map ordered by bytes finds the key that is the same name
-pub mod KeyOrder
--- a name keeps its number, and no other name gets it
-pub mod NameNumbers
--- what a binding hides comes back when the binding is removed
-pub mod Tables
--- a name's number and its position among the bindings
-pub mod Numbers
--- the parameters of two functions, one by one
-pub mod SameTypes
+-- the item of a list at an index
+pub mod Items
 -- what follows when a call succeeds
 pub mod Success
 -- the trees of calls and blocks, whose parts the code keeps in rows

@@ -4,16 +4,16 @@ use Rattle.std.specs.Prelude.{not, is_some}
 use Rattle.cc_ast.specs.scalar.Scalar.{Scalar}
 use Rattle.cc_ast.specs.Tree as tree
 use Rattle.cc_ast.specs.Tree.{Parameter, Signature, Object, Single, Array, Bytes, External, Declaration, Definition, Objects, Stmts, ConstantExpr}
-use Rattle.cc_types.specs.Bindings.{closed, file_level, file_of, file_with}
+use Rattle.cc_scope.specs.Bindings.{closed, file_level, file_of, file_with}
 use Rattle.cc_types.specs.internal.Externals.{defined_in}
 use Rattle.cc_typing.specs.internal.Findings.{Found, after, with_before, is_bad_length}
 use Rattle.cc_types.specs.Scope.{Elements, Binding, Visible, in_scope, is_declared, FileScope, has_name, with_declared, with_function, with_object, with_objects, parameter_declared, parameters_declared, body_scope, file_scope_behind}
 use Rattle.cc_types.specs.Rules.{Around, broken_if, optional_constant_errors, constants_errors, length_errors, named_array_errors, object_errors, objects_errors, parameter_errors, parameters_errors, signature_errors, external_errors, externals_errors, statements_errors, called_in_constants, called_in_optional_constant, called_in_object, called_in_objects, called_in_external, called, called_in_statements}
 use Rattle.cc_types.specs.declared.rule.RuleError.{RuleError}
 use Rattle.cc_types.specs.declared.rule.Rule.TheVariants.{Redeclared, WrongCount}
-use Rattle.cc_types.specs.Entities.{optional_entity}
+use Rattle.cc_scope.specs.Entities.{optional_entity}
 use Rattle.cc_types.specs.Types.{array_length}
-use Rattle.cc_types.specs.declared.entity.Entity as code
+use Rattle.cc_scope.specs.declared.entity.Entity as code
 use Rattle.cc_types.proofs.FileScopes.{parameters_declared-outer, with_object-same, with_objects-same}
 use Rattle.cc_typing.proofs.Parts as parts
 use Rattle.cc_typing.proofs.Parts.{two, three}

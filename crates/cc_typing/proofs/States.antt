@@ -2,13 +2,13 @@
 use Rattle.std.proofs.Common.{◌≡◌, ℕ, Bool, true, false, ◌||◌, cond, List, [], ◌∷◌, ◌++◌, Bor, Option, Some, refl, sym, ap, ◌∙◌, nat_eq}
 use Rattle.std.specs.Cmp.Lexicographic.{bytes_decides}
 use Rattle.std.proofs.lemmas.List.{reverse-append}
-use Rattle.cc_types.specs.Entities.{names_in}
+use Rattle.cc_scope.specs.Entities.{names_in}
 use Rattle.cc_types.specs.Names.{same_name}
 use Rattle.cc_types.specs.Scope.{has_name}
-use Rattle.cc_types.specs.Numberings.{IsNumbered, number_of_name, at_number}
+use Rattle.cc_scope.specs.Numberings.{IsNumbered, number_of_name, at_number}
 use Rattle.cc_typing.specs.declared.functions.State.{State}
 use Rattle.cc_typing.specs.internal.Functions.{AreStates, newest_first, is_defined, stands_before}
-use Rattle.cc_types.proofs.NameNumbers.{at-numbered, rest-numbered, at-changed, rest-changed}
+use Rattle.cc_scope.proofs.NameNumbers.{at-numbered, rest-numbered, at-changed, rest-changed}
 
 -- the table stays right if one more name gets a number
 pub AreStates-numbered : (old new : List (List ℕ × ℕ)) (x : List ℕ) (n : ℕ) (table : ℕ → Option State) (defined before : List (List ℕ)) → AreStates old table defined before → IsNumbered old new x n

@@ -5,7 +5,7 @@ use Rattle.cc_tokens.specs.Place.{place_of}
 use Rattle.cc_types.specs.Checked.{IsChecked}
 use Rattle.cc_typing.specs.internal.Counts.{all_defined}
 use Rattle.cc_types.specs.Fault.{fault_of}
-use Rattle.cc_types.specs.Bindings.{file_level, file_with}
+use Rattle.cc_scope.specs.Bindings.{file_level, file_with}
 use Rattle.cc_typing.specs.internal.Findings.{Found, noted, nothing_found}
 use Rattle.cc_typing.specs.internal.Functions.{Functions}
 use Rattle.cc_types.specs.Limits.{excesses}

@@ -4,7 +4,7 @@ use Rattle.std.proofs.Math.Seq.{take-append_seam, drop-append_seam}
 use Rattle.cc_ast.specs.scalar.Scalar.{Scalar}
 use Rattle.cc_ast.specs.Tree as tree
 use Rattle.cc_ast.specs.Tree.{Expr, Declarator, Beginning, Action, Stmt, Stmts, next, If, IfElse, While, DoWhile, For, Declares, Performs}
-use Rattle.cc_types.specs.Bindings.{closed}
+use Rattle.cc_scope.specs.Bindings.{closed}
 use Rattle.cc_typing.specs.internal.Findings.{Found, after, declarator_errors, is_bad_return}
 use Rattle.cc_types.specs.Scope.{Variable, Binding, Visible, in_scope, opened, declared, is_declared, all_declared, scope_behind, scope_behind_beginning}
 use Rattle.cc_types.specs.Rules.{broken_if, Around, within_loop, value_errors, optional_errors, optional_action_errors, declared_errors, beginning_errors, return_errors, statement_errors, statements_errors, called_in, called_in_optional, called_in_optional_action, called_in_declared, called_in_beginning, called_in_statement, called_in_statements}

@@ -17,7 +17,8 @@ use super::findings::Findings;
 use super::functions::Functions;
 use super::limits::with_excesses;
 use cc_ast::{External, Place, Scalar, Unit, place_at};
-use cc_types::{READ_WORD, Rule, RuleError, Scope, TypeFault, TypedUnit, WRITE_WORD, same_result};
+use cc_scope::{READ_WORD, Scope, WRITE_WORD, same_result};
+use cc_types::{Rule, RuleError, TypeFault, TypedUnit};
 use std::alloc::{AllocError, Global};
 
 const MAIN: &[u8] = b"main";

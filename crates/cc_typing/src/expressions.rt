@@ -14,7 +14,8 @@ ghost use Rattle.cc_types.specs.Scope.{found, in_scope};
 
 use super::findings::Findings;
 use cc_ast::{Action, Expression, Identifier, Scalar, Target};
-use cc_types::{Entity, Rule, Scope};
+use cc_scope::{Entity, Scope};
+use cc_types::Rule;
 
 // Checks a name that must be a variable. An array or a function breaks the rule `misuse`.
 fn variable(scope: &Scope, findings: &mut Findings, name: &Identifier, misuse: Rule)

@@ -2,7 +2,7 @@
 
 ghost use Rattle.std.specs.Prelude.{◌≡◌, ◌++◌, [], length, OnOk};
 ghost use Rattle.cc_ast.specs.Erase.{name_tree, constant_tree, optional_constant, constant_trees, object_tree, object_trees, parameter_tree, parameter_trees, signature_tree, external_tree, external_trees};
-ghost use Rattle.cc_types.specs.Bindings.{file_level, file_of, file_with};
+ghost use Rattle.cc_scope.specs.Bindings.{file_level, file_of, file_with};
 ghost use Rattle.cc_types.specs.internal.Externals.{defined_in};
 ghost use Rattle.cc_typing.specs.internal.Findings.{after, noted, is_bad_length, with_before};
 ghost use Rattle.cc_types.specs.Rules.{constant_errors, optional_constant_errors, constants_errors, named_array_errors, object_errors, objects_errors, parameter_errors, parameters_errors, signature_errors, external_errors, externals_errors, called_in_constant, called_in_optional_constant, called_in_constants, called_in_object, called_in_objects, called_in_external, called, undefined_among};
@@ -13,7 +13,8 @@ use super::expressions::value;
 use super::findings::Findings;
 use super::statements::all_statements;
 use cc_ast::{ConstantExpression, External, Identifier, Object, Parameter, Scalar, Signature};
-use cc_types::{Entity, Rule, Scope, array_length, constant_word, differs};
+use cc_scope::{Entity, Scope, differs};
+use cc_types::{Rule, array_length, constant_word};
 use std::alloc::AllocError;
 
 // Checks a constant expression.

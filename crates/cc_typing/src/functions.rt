@@ -7,7 +7,7 @@ ghost use Rattle.std.specs.Prelude.{◌≡◌, [], ◌∷◌, OnOk};
 ghost use Rattle.cc_types.specs.Scope.{has_name};
 ghost use Rattle.cc_typing.specs.internal.Functions.{is_defined, stands_before};
 
-use cc_types::Numbering;
+use cc_scope::Numbering;
 use indexmap::IndexMap;
 use std::alloc::{AllocError, Global};
 use std::marker::Model;

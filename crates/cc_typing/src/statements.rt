@@ -13,7 +13,8 @@ use super::around::Surroundings;
 use super::expressions::{optional_action, optional_value, value};
 use super::findings::Findings;
 use cc_ast::{Action, Beginning, Declarator, Expression, Scalar, Statement};
-use cc_types::{Entity, Rule, Scope};
+use cc_scope::{Entity, Scope};
+use cc_types::Rule;
 use std::alloc::AllocError;
 
 // Checks one name in a declaration. The name is in scope in its own initialiser.

@@ -1,9 +1,10 @@
 // How names become numbers (of locals, objects and functions), and how operators become operations.
 
 use super::calls::typed_unit;
+use cc_layout::Callee;
 use cc_resolve::{
-    BinaryOperation, Callee, Environment, UnaryOperation, declare_statement, function_environment,
-    lay_out, leave_function, operation, unary_operation,
+    BinaryOperation, Environment, UnaryOperation, declare_statement, function_environment, lay_out,
+    leave_function, operation, unary_operation,
 };
 use cc_syntax::{BinaryOperator, Scalar, Statement, UnaryOperator};
 use cc_types::{Definition, TypedUnit};

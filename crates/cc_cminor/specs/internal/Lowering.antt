@@ -1,5 +1,5 @@
 -- How the body of a function becomes Cminor. A local's number is how many locals are older than it
--- (`Rattle.cc_resolve.specs.Environment`), and values that have to wait are kept in variables above all locals in scope. A reader
+-- (`Rattle.cc_layout.specs.Environment`), and values that have to wait are kept in variables above all locals in scope. A reader
 -- need not check this file: what a pair guarantees does not mention it.
 use Rattle.std.specs.Prelude.{ℕ, zero, suc, Bool, true, false, not, ◌&&◌, ◌==◌, List, [], ◌∷◌, ◌++◌, length, if◌then◌else◌, Option, Some, None, unwrap_or}
 use Rattle.cc_tokens.specs.declared.scalar.Scalar.{Scalar}
@@ -15,19 +15,19 @@ use Rattle.cc_ast.specs.Tree as tree
 use Rattle.cc_ast.specs.Tree.{Expr, Exprs, none, more, Number, Variable, Element, Parenthesised, Cast, Conditional, Target, AtVariable, AtElement, Action, Assign, Step, Evaluate, Declarator, Beginning, Declares, Performs, Stmt, Stmts, end, next, Perform, Break, Continue, IfElse, While, DoWhile, For}
 use Rattle.cc_types.specs.Operators.{working_type, applied_operator, step_operator}
 use Rattle.cc_types.specs.Types.{value_type, target_type}
-use Rattle.cc_resolve.specs.Layout.{Layout, object_number, extent_of, callee}
-use Rattle.cc_resolve.specs.Environment.{Environment, number_in, types_in, inner, with_local, behind, behind_beginning}
+use Rattle.cc_layout.specs.Layout.{Layout, object_number, extent_of, callee}
+use Rattle.cc_layout.specs.Environment.{Environment, number_in, types_in, inner, with_local, behind, behind_beginning}
 use Rattle.cc_resolve.specs.Operations.{operation, unary_operation}
-use Rattle.cc_resolve.specs.declared.layout.Callee.{Callee}
-use Rattle.cc_resolve.specs.declared.layout.Callee.TheVariants.{WriteWord, ReadWord, Defined}
+use Rattle.cc_layout.specs.declared.layout.Callee.{Callee}
+use Rattle.cc_layout.specs.declared.layout.Callee.TheVariants.{WriteWord, ReadWord, Defined}
 use Rattle.cc_resolve.specs.declared.operations.UnaryOperation.{UnaryOperation}
 use Rattle.cc_resolve.specs.declared.operations.UnaryOperation.TheVariants as single
 use Rattle.cc_resolve.specs.declared.operations.BinaryOperation.{BinaryOperation}
 use Rattle.cc_resolve.specs.declared.operations.BinaryOperation.TheVariants as word
 use Rattle.cc_words.specs.declared.operators.Width.{Width}
 use Rattle.cc_words.specs.declared.operators.Width.TheVariants.{Word}
-use Rattle.cc_cminor.specs.Cminor.{Expression, Constant, Local, Unary, Binary, Load, Statement, Skip, Set, Store, Call, Read, Write, Sequence, If, Loop, Block, Exit, Return}
-use Rattle.cc_cminor.specs.Code.{in_sequence}
+use Rattle.cc_cminor_language.specs.Cminor.{Expression, Constant, Local, Unary, Binary, Load, Statement, Skip, Set, Store, Call, Read, Write, Sequence, If, Loop, Block, Exit, Return}
+use Rattle.cc_cminor_language.specs.Code.{in_sequence}
 
 -- the first variable above all locals in scope
 abbrev pub free : Environment → ℕ

@@ -6,13 +6,13 @@ use Rattle.cc_ast.specs.declared.ast.BinaryOperator.{BinaryOperator}
 use Rattle.cc_ast.specs.Tree.{Expr, Target, AtVariable, AtElement}
 use Rattle.cc_types.specs.Scope.{found}
 use Rattle.cc_types.specs.Types.{variable_type, element_type}
-use Rattle.cc_resolve.specs.Layout.{Layout}
-use Rattle.cc_resolve.specs.Environment.{Environment, types_in}
+use Rattle.cc_layout.specs.Layout.{Layout}
+use Rattle.cc_layout.specs.Environment.{Environment, types_in}
 use Rattle.cc_words.specs.declared.operators.Binary as two
-use Rattle.cc_cminor.specs.Cminor.{Expression, Constant, Local, Binary, Load, Statement, Set, Store, Sequence}
-use Rattle.cc_cminor.specs.Code.{expression_of, statement_of}
-use Rattle.cc_cminor.specs.declared.code.Expression as value
-use Rattle.cc_cminor.specs.declared.code.Statement as written
+use Rattle.cc_cminor_language.specs.Cminor.{Expression, Constant, Local, Binary, Load, Statement, Set, Store, Sequence}
+use Rattle.cc_cminor_language.specs.Code.{expression_of, statement_of}
+use Rattle.cc_cminor_language.specs.declared.code.Expression as value
+use Rattle.cc_cminor_language.specs.declared.code.Statement as written
 use Rattle.cc_cminor.specs.internal.Lowering.{free, object_of, width_of, variable_of, variable_set, binary_of, truth_of, branch, Kind, Conjunction, Disjunction, Strict, is_plain, plain, put_expr, combined}
 
 pub record Taken : Type 0 where

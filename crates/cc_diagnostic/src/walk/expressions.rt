@@ -3,13 +3,15 @@
 use super::{Use, Walk};
 use crate::code::{Element, Instruction, TypedOperator};
 use crate::names::{Lead, Standing};
-use cc_resolve::{Extent, unary_operation};
+use cc_layout::Extent;
+use cc_resolve::unary_operation;
+use cc_scope::Entity;
 use cc_syntax::{
     Action, AssignmentOperator, BinaryOperator, Expression, Identifier, StepOperator, Target,
 };
 use cc_tokens::Scalar;
 use cc_types::{
-    Entity, applied_operator, binary_type, common_type, step_operator, unary_type, working_type,
+    applied_operator, binary_type, common_type, step_operator, unary_type, working_type,
 };
 use cc_words::Width;
 

@@ -3,9 +3,9 @@
 use super::{Use, Walk};
 use crate::code::Instruction;
 use crate::names::{Lead, Standing};
+use cc_scope::Entity;
 use cc_syntax::{Action, Beginning, Declarator, Expression, Statement};
 use cc_tokens::Scalar;
-use cc_types::Entity;
 
 /// How many jumps out of loops were waiting for their targets before a loop began.
 #[derive(Clone, Copy)]

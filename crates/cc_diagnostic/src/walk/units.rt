@@ -5,12 +5,13 @@ use crate::code::{Function, Instruction};
 use crate::ends::never_left;
 use crate::names::{Lead, Standing};
 use crate::warning::Warning;
-use cc_resolve::Extent;
+use cc_layout::Extent;
+use cc_scope::Entity;
 use cc_syntax::{
     ConstantExpression, External, Identifier, Object, Parameter, Signature, Statement,
 };
 use cc_tokens::Scalar;
-use cc_types::{Entity, array_length};
+use cc_types::array_length;
 use cc_words::Width;
 use std::alloc::AllocError;
 

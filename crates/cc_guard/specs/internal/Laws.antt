@@ -2,8 +2,8 @@
 use Rattle.std.specs.Prelude.{ℕ, suc}
 use Rattle.cc_simulation.specs.Meaning.{Meaning}
 use Rattle.cc_simulation.specs.Tracks.{Tracks}
-use Rattle.cc_cminor.specs.Cminor.{Statement, cminor_move, cminor_output, cminor_start}
-use Rattle.cc_cminor.specs.Breaks.{TracksOrBreaks}
+use Rattle.cc_cminor_language.specs.Cminor.{Statement, cminor_move, cminor_output, cminor_start}
+use Rattle.cc_cminor_language.specs.Breaks.{TracksOrBreaks}
 use Rattle.cc_guard.specs.Guard.{guarded_function}
 use Rattle.cc_guard.specs.internal.Fits.{Fits, KeepsSizes}
 

@@ -1,7 +1,7 @@
 -- What remains to be done after a statement of guarded code, and what is known about variables at the start of each part.
 use Rattle.std.specs.Prelude.{ℕ, suc, List, [], ◌∷◌}
 use Rattle.cc_simulation.specs.World.{Size}
-use Rattle.cc_cminor.specs.Cminor.{Statement, Exit, Continuation, Ends, Then, Again, Leaving}
+use Rattle.cc_cminor_language.specs.Cminor.{Statement, Exit, Continuation, Ends, Then, Again, Leaving}
 use Rattle.cc_guard.specs.declared.known.Limit.{Limit}
 use Rattle.cc_guard.specs.Guard.{forever, code_after}
 

@@ -5,8 +5,8 @@ use Rattle.cc_words.specs.declared.operators.Width.TheVariants.{Byte, Word}
 use Rattle.cc_ast.specs.Tree.{Object}
 use Rattle.cc_types.specs.Types.{object_elements, object_width}
 use Rattle.cc_simulation.specs.World.{Size}
-use Rattle.cc_cminor.specs.Cminor.{Expression, Statement}
-use Rattle.cc_cminor.specs.internal.Statements.{statements_of}
+use Rattle.cc_cminor_language.specs.Cminor.{Expression, Statement}
+use Rattle.cc_cminor_language.specs.Statements.{statements_of}
 use Rattle.cc_guard.specs.declared.known.Limit.{Limit}
 use Rattle.cc_guard.specs.declared.sizes.ObjectSize.{ObjectSize}
 use Rattle.cc_guard.specs.declared.guards.Guards.{Guards}

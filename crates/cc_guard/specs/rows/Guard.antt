@@ -4,7 +4,7 @@ use Rattle.cc_words.specs.declared.operators.Width.TheVariants.{Byte, Word}
 use Rattle.cc_words.specs.declared.operators.Unary.TheVariants.{IsZero}
 use Rattle.cc_words.specs.declared.operators.Binary.TheVariants.{Add, DivS, DivU, RemU, Shl, And, Eq, LtS, LtU, LeS, LeU}
 use Rattle.cc_simulation.specs.World.{Size}
-use Rattle.cc_cminor.specs.Cminor.{Expression, Constant, Local, Unary, Binary, Load, Statement, Skip, Set, Store, Call, Sequence, If, Loop, Block, Exit, Return}
+use Rattle.cc_cminor_language.specs.Cminor.{Expression, Constant, Local, Unary, Binary, Load, Statement, Skip, Set, Store, Call, Sequence, If, Loop, Block, Exit, Return}
 use Rattle.cc_guard.specs.Guard.{guarded_code, has_guards, guarded_function}
 
 abbrev objects : List Size

@@ -3,7 +3,7 @@ use Rattle.std.specs.Prelude.{ℕ, ◌+◌, ◌-◌, List, [], ◌∷◌, length
 use Rattle.cc_ast.specs.Tree.{Target, AtVariable, AtElement}
 use Rattle.cc_ast.specs.declared.ast.BinaryOperator.{BinaryOperator}
 use Rattle.cc_ast.specs.declared.ast.BinaryOperator.TheVariants.{LogicalAnd, LogicalOr}
-use Rattle.cc_resolve.specs.Environment.{Environment}
+use Rattle.cc_layout.specs.Environment.{Environment}
 use Rattle.cc_meaning.specs.internal.Form.{expression_code, store_of, store_element_of}
 use Rattle.cc_resolve.specs.declared.operations.BinaryOperation.{BinaryOperation}
 use Rattle.cc_meaning.specs.declared.form.Instruction.{Instruction}

@@ -4,7 +4,8 @@ ghost use Rattle.std.specs.Prelude.{◌≡◌};
 ghost use Rattle.cc_meaning.specs.internal.Form.{load, call_of, store_of, store_element_of};
 
 use crate::form::{Instruction, Slot};
-use cc_resolve::{BinaryOperation, Callee, Environment};
+use cc_layout::Callee;
+use cc_resolve::{BinaryOperation, Environment};
 
 /// The instruction that pushes the value of a variable.
 pub fn load(names: &Environment<'_>, name: &[u8]) -> Instruction

@@ -4,7 +4,7 @@ ghost use Rattle.std.specs.Prelude.{◌≡◌, ◌++◌, OnOk};
 ghost use Rattle.cc_ast.specs.Tree as tree;
 ghost use Rattle.cc_ast.specs.Erase.{expression_tree, target_tree, action_tree, optional_action};
 ghost use Rattle.cc_types.specs.Types.{target_type};
-ghost use Rattle.cc_resolve.specs.Environment.{types_in};
+ghost use Rattle.cc_layout.specs.Environment.{types_in};
 ghost use Rattle.cc_meaning.specs.internal.Form.{applied, action_code, optional_action_code};
 ghost use Rattle.cc_meaning.specs.internal.Emitted.{index_code, write_of};
 

@@ -6,8 +6,8 @@
 ghost use Rattle.std.specs.Prelude.{◌≡◌, ◌∷◌, ◌++◌, length, OnOk};
 ghost use Rattle.cc_ast.specs.Erase.{optional_tree, declarator_trees, beginning_tree};
 ghost use Rattle.cc_tokens.specs.declared.scalar.Scalar.{Scalar};
-ghost use Rattle.cc_resolve.specs.Environment as resolve;
-ghost use Rattle.cc_resolve.specs.Environment.{with_local, with_locals, behind_beginning};
+ghost use Rattle.cc_layout.specs.Environment as resolve;
+ghost use Rattle.cc_layout.specs.Environment.{with_local, with_locals, behind_beginning};
 ghost use Rattle.cc_meaning.specs.internal.Form.{initial_code, declared_code, beginning_code};
 ghost use Rattle.cc_meaning.specs.declared.form.Instruction.TheVariants.{Clear};
 

@@ -6,9 +6,9 @@
 ghost use Rattle.std.specs.Prelude.{◌≡◌, ◌≤◌, ◌<◌, ◌-◌, ◌∷◌, ◌++◌, List, length, OnOk};
 ghost use Rattle.cc_ast.specs.Erase.{expression_tree, optional_tree, optional_action, beginning_tree, statement_tree, statements_of};
 ghost use Rattle.cc_ast.specs.Tree as tree;
-ghost use Rattle.cc_resolve.specs.Environment as resolve;
+ghost use Rattle.cc_layout.specs.Environment as resolve;
 ghost use Rattle.cc_meaning.specs.internal.Form as written;
-ghost use Rattle.cc_resolve.specs.Environment.{inner, behind};
+ghost use Rattle.cc_layout.specs.Environment.{inner, behind};
 ghost use Rattle.cc_meaning.specs.internal.Form.{exits_of_body, expression_code, turns_code, statement_code, statements_code};
 ghost use Rattle.cc_meaning.specs.internal.Writing.{exits_of, conditional_code};
 ghost use Rattle.cc_meaning.specs.declared.form.Instruction.TheVariants.{Repeat};

@@ -2,10 +2,10 @@
 
 ghost use Rattle.std.specs.Prelude.{◌≡◌, [], ◌∷◌, ◌++◌, length, OnOk, IfOk};
 ghost use Rattle.cc_ast.specs.Erase.{signature_tree, statements_of, external_tree, external_trees};
-ghost use Rattle.cc_types.specs.Bindings.{file_level, file_of};
+ghost use Rattle.cc_scope.specs.Bindings.{file_level, file_of};
 ghost use Rattle.cc_meaning.specs.internal.FormErase.{form_tree, Resolves};
 ghost use Rattle.cc_meaning.specs.internal.Form.{function_code, functions_code, all_code, entries_from, unit_functions};
-ghost use Rattle.cc_resolve.specs.Layout.{layout_of};
+ghost use Rattle.cc_layout.specs.Layout.{layout_of};
 ghost use Rattle.cc_types.specs.Scope.{first_file_scope, with_function, file_scope_behind};
 
 use super::statements::{Exits, statements};

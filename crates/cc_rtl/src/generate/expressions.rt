@@ -4,8 +4,8 @@
 // with two calls for each of its levels.
 
 ghost use Rattle.std.specs.Prelude.{◌≡◌, ◌+◌, ◌<◌, ◌≤◌, ◌^◌, ◌++◌, length, IfOk, OnOk};
-ghost use Rattle.cc_cminor.specs.Code.{expression_of, expressions_of};
-ghost use Rattle.cc_cminor.specs.Numbers.{most_variables, ExpressionBelow, ExpressionsBelow};
+ghost use Rattle.cc_cminor_language.specs.Code.{expression_of, expressions_of};
+ghost use Rattle.cc_cminor_language.specs.Numbers.{most_variables, ExpressionBelow, ExpressionsBelow};
 ghost use Rattle.cc_rtl_language.specs.Rtl.{most_nodes};
 ghost use Rattle.cc_rtl.specs.internal.Generate.{register, taken, made_into, operand, registers, operands};
 ghost use Rattle.cc_rtl.specs.Size.{into_nodes, operand_nodes, operands_nodes};
@@ -13,7 +13,7 @@ ghost use Rattle.cc_rtl_language.specs.Code.{node_of};
 ghost use Rattle.cc_rtl.specs.internal.Generating.{made_at, last_node};
 
 use super::graph::Graph;
-use cc_cminor::Expression;
+use cc_cminor_language::Expression;
 use cc_rtl_language::Node;
 use smallvec::SmallVec;
 use std::alloc::AllocError;

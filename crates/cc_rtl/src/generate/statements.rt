@@ -3,10 +3,10 @@
 // The recursion is as deep as the tree; a loop goes through the statements of a list.
 
 ghost use Rattle.std.specs.Prelude.{◌≡◌, ◌+◌, ◌<◌, ◌≤◌, [], length, reverse, get_or, IfOk, OnOk};
-ghost use Rattle.cc_cminor.specs.Cminor.{Call, Store};
-ghost use Rattle.cc_cminor.specs.Code.{expression_of, expressions_of, statement_of, in_sequence};
-ghost use Rattle.cc_cminor.specs.internal.Statements.{statements_of};
-ghost use Rattle.cc_cminor.specs.Numbers.{most_variables, ResultBelow, ExpressionBelow, StatementFits};
+ghost use Rattle.cc_cminor_language.specs.Cminor.{Call, Store};
+ghost use Rattle.cc_cminor_language.specs.Code.{expression_of, expressions_of, statement_of, in_sequence};
+ghost use Rattle.cc_cminor_language.specs.Statements.{statements_of};
+ghost use Rattle.cc_cminor_language.specs.Numbers.{most_variables, ResultBelow, ExpressionBelow, StatementFits};
 ghost use Rattle.cc_rtl_language.specs.Rtl.{most_nodes};
 ghost use Rattle.cc_rtl_language.specs.Code.{node_of};
 ghost use Rattle.cc_rtl.specs.Size.{operand_nodes, statement_nodes};
@@ -15,7 +15,7 @@ ghost use Rattle.cc_rtl.specs.internal.Generating.{made_at};
 
 use super::expressions::{hold, into, operand, operands, register, taken};
 use super::graph::Graph;
-use cc_cminor::{Expression, Statement};
+use cc_cminor_language::{Expression, Statement};
 use cc_rtl_language::Node;
 use cc_words::Width;
 use smallvec::SmallVec;

@@ -3,7 +3,7 @@ use Rattle.std.specs.Prelude.{ℕ, ◌<◌, List, [], ◌∷◌, get_or}
 use Rattle.cc_ast.specs.Erase.{statements_of}
 use Rattle.cc_ast.specs.declared.ast.External.{External}
 use Rattle.cc_ast.specs.declared.ast.External.TheVariants.{Declaration, Definition, Objects}
-use Rattle.cc_resolve.specs.Layout.{Layout, names_before}
+use Rattle.cc_layout.specs.Layout.{Layout, names_before}
 use Rattle.cc_depth.specs.Cycles.{InStatements}
 
 -- the rank of the function with a name: the table's entry for the function's number; 0 if the unit does not define it

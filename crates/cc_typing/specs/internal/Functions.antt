@@ -1,9 +1,9 @@
 -- How the code stores which functions are defined.
 use Rattle.std.specs.Prelude.{ℕ, ◌≡◌, ◌≤◌, Bool, false, List, length, reverse, Option, Some, None}
 use Rattle.std.specs.Borrow.{Bor}
-use Rattle.cc_types.specs.Numberings.{AreNumbers, number_of_name, at_number}
+use Rattle.cc_scope.specs.Numberings.{AreNumbers, number_of_name, at_number}
 use Rattle.cc_types.specs.Scope.{has_name}
-use Rattle.cc_types.specs.Entities.{names_in}
+use Rattle.cc_scope.specs.Entities.{names_in}
 use Rattle.cc_typing.specs.declared.functions.State.{State}
 
 -- the functions that a unit defines, and those that are defined before a given place; both include the builtins

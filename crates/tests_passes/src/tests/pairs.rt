@@ -1,6 +1,7 @@
 // From a text to the Cminor and the RTL of its functions.
 
-use cc_cminor::{CminorPair, to_cminor};
+use cc_cminor::to_cminor;
+use cc_cminor_language::CminorPair;
 use cc_rtl::{RtlPair, to_rtl};
 use cc_syntax::parse;
 use cc_types::TypedUnit;

@@ -5,17 +5,17 @@ use Rattle.cc_ast.specs.Tree as syntax
 use Rattle.cc_ast.specs.Erase.{name_tree, expression_tree}
 use Rattle.cc_ast.specs.internal.Arguments.{expressions_of}
 use Rattle.cc_ast.specs.declared.ast.Expression as tree
-use Rattle.cc_resolve.specs.Layout as layout
-use Rattle.cc_resolve.specs.declared.layout.Callee.{Callee}
-use Rattle.cc_cminor.specs.Cminor as cminor
-use Rattle.cc_cminor.specs.Code as code
-use Rattle.cc_cminor.specs.internal.Statements as codes
-use Rattle.cc_cminor.specs.Code.{expression_of, statement_of, in_sequence}
-use Rattle.cc_cminor.specs.declared.code.Expression.{Expression}
-use Rattle.cc_cminor.specs.declared.code.Statement.{Statement}
+use Rattle.cc_layout.specs.Layout as layout
+use Rattle.cc_layout.specs.declared.layout.Callee.{Callee}
+use Rattle.cc_cminor_language.specs.Cminor as cminor
+use Rattle.cc_cminor_language.specs.Code as code
+use Rattle.cc_cminor_language.specs.Statements as codes
+use Rattle.cc_cminor_language.specs.Code.{expression_of, statement_of, in_sequence}
+use Rattle.cc_cminor_language.specs.declared.code.Expression.{Expression}
+use Rattle.cc_cminor_language.specs.declared.code.Statement.{Statement}
 use Rattle.cc_cminor.specs.internal.Lowering.{count, is_plain, are_plain, plain, all_plain, put_expr, put_all, locals_from, invoked}
 use Rattle.cc_cminor.specs.internal.Taken.{Taken, taken_of, taken, waiting, put_in}
-use Rattle.cc_cminor.proofs.Codes.{if_ok, expressions_push, statements_push}
+use Rattle.cc_cminor_language.proofs.Codes.{if_ok, expressions_push, statements_push}
 use Rattle.cc_cminor.proofs.Variables.{and_left, and_right}
 use Rattle.cc_cminor.proofs.Taking.{drop-item, count-is, put-is, plain-is, binary-value, conditional-value, call-code}
 use Rattle.cc_cminor.proofs.Trees.{expression_tree-call}

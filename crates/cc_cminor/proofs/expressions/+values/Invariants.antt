@@ -1,7 +1,7 @@
 use Rattle.std.proofs.Common.{◌≡◌, ◌++◌, drop, true}
 use Rattle.cc_ast.specs.internal.Arguments.{expressions_of}
-use Rattle.cc_cminor.specs.Code as code
-use Rattle.cc_cminor.specs.internal.Statements as codes
+use Rattle.cc_cminor_language.specs.Code as code
+use Rattle.cc_cminor_language.specs.Statements as codes
 use Rattle.cc_cminor.specs.internal.Lowering.{are_plain, all_plain, put_all}
 use Rattle.cc_cminor.proofs.expressions.+values.Given as goal
 

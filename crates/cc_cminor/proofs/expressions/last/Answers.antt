@@ -1,8 +1,9 @@
 use Rattle.std.proofs.Common.{◌∙◌, List, ap, sym}
-use Rattle.cc_cminor.specs.Code.{expression_of, expressions_of}
-use Rattle.cc_cminor.specs.declared.code.Expression.{Expression}
+use Rattle.cc_cminor_language.specs.Code.{expression_of, expressions_of}
+use Rattle.cc_cminor_language.specs.declared.code.Expression.{Expression}
 use Rattle.cc_cminor.specs.internal.Lowering.{last_value}
-use Rattle.cc_cminor.proofs.Codes.{if_ok, last_push}
+use Rattle.cc_cminor_language.proofs.Codes.{if_ok}
+use Rattle.cc_cminor.proofs.Lasts.{last_push}
 use Rattle.cc_cminor.proofs.expressions.last.Goals as goal
 
 pub returns-in-Some : goal.returns-in-Some

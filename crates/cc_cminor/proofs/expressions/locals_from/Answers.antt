@@ -1,10 +1,10 @@
 use Rattle.std.proofs.Common.{◌≡◌, suc, ◌+◌, ◌-◌, ◌++◌, List, [], ◌∷◌, ◌∙◌, ap, sym, arith}
 use Rattle.std.proofs.lemmas.List.{append_assoc}
-use Rattle.cc_cminor.specs.Cminor as cminor
-use Rattle.cc_cminor.specs.Code as code
+use Rattle.cc_cminor_language.specs.Cminor as cminor
+use Rattle.cc_cminor_language.specs.Code as code
 use Rattle.cc_cminor.specs.internal.Lowering.{locals_from}
-use Rattle.cc_cminor.specs.declared.code.Expression.{Expression, Local}
-use Rattle.cc_cminor.proofs.Codes.{expressions_push}
+use Rattle.cc_cminor_language.specs.declared.code.Expression.{Expression, Local}
+use Rattle.cc_cminor_language.proofs.Codes.{expressions_push}
 use Rattle.cc_cminor.proofs.expressions.locals_from.Goals as goal
 
 pub loop-variable-preserved : goal.loop-variable-preserved

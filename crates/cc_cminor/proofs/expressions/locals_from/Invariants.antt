@@ -1,5 +1,5 @@
 use Rattle.std.proofs.Common.{◌≡◌, ◌++◌, ◌-◌}
-use Rattle.cc_cminor.specs.Code as code
+use Rattle.cc_cminor_language.specs.Code as code
 use Rattle.cc_cminor.specs.internal.Lowering.{locals_from}
 use Rattle.cc_cminor.proofs.expressions.locals_from.Given as goal
 

@@ -3,8 +3,8 @@ use Rattle.std.proofs.Common.{◌≡◌, sym, subst}
 use Rattle.std.specs.Arc.{arc_value}
 use Rattle.cc_ast.specs.Source.{source}
 use Rattle.cc_ast.specs.declared.unit.Unit as parsed
-use Rattle.cc_cminor.specs.Code.{statement_of}
-use Rattle.cc_cminor.specs.Pair.{Pair, tree_of, code_of, GoesWrong}
+use Rattle.cc_cminor_language.specs.Code.{statement_of}
+use Rattle.cc_cminor_language.specs.Pair.{Pair, tree_of, code_of, GoesWrong}
 use Rattle.cc_cminor.specs.internal.Lowered.{IsLowered}
 use Rattle.cc_cminor.proofs.lower.to_cminor.Goals as goal
 

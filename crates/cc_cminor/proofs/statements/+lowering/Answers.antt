@@ -3,13 +3,13 @@ use Rattle.std.proofs.Common.{◌≡◌, ◌+◌, ◌++◌, ◌∙◌, List, [],
 use Rattle.cc_ast.specs.Erase.{optional_tree, optional_action, beginning_tree, statement_tree, statements_of}
 use Rattle.cc_ast.specs.Tree.{Block}
 use Rattle.cc_ast.specs.declared.ast.Statement as tree
-use Rattle.cc_cminor.specs.Cminor as cminor
-use Rattle.cc_cminor.specs.Code as code
-use Rattle.cc_cminor.specs.internal.Statements as codes
-use Rattle.cc_cminor.specs.Code.{statement_of, in_sequence}
+use Rattle.cc_cminor_language.specs.Cminor as cminor
+use Rattle.cc_cminor_language.specs.Code as code
+use Rattle.cc_cminor_language.specs.Statements as codes
+use Rattle.cc_cminor_language.specs.Code.{statement_of, in_sequence}
 use Rattle.cc_cminor.specs.internal.Lowering.{lowered}
 use Rattle.cc_cminor.specs.internal.Taken.{taken_of}
-use Rattle.cc_cminor.proofs.Codes.{if_ok, on_ok, statements_push}
+use Rattle.cc_cminor_language.proofs.Codes.{if_ok, on_ok, statements_push}
 use Rattle.cc_cminor.proofs.Closing.{closed-back, around-fits, in-statement, in-list, in-beginning}
 use Rattle.cc_cminor.proofs.Taking.{drop-item}
 use Rattle.cc_cminor.proofs.Trees.{statement_tree-block}

@@ -1,6 +1,6 @@
 use Rattle.std.proofs.Common.{drop}
 use Rattle.cc_ast.specs.Erase.{declarator_trees}
-use Rattle.cc_cminor.specs.internal.Statements as codes
+use Rattle.cc_cminor_language.specs.Statements as codes
 use Rattle.cc_cminor.proofs.Listing.{Declaring}
 use Rattle.cc_cminor.proofs.statements.declaration.Given as goal
 

@@ -3,13 +3,13 @@ use Rattle.std.proofs.Common.{◌≡◌, ◌++◌, ◌∷◌, [], List, ◌∙�
 use Rattle.std.proofs.lemmas.List.{append_assoc}
 use Rattle.cc_ast.specs.Erase.{optional_tree, declarator_trees}
 use Rattle.cc_ast.specs.declared.ast.Declarator.{Declarator}
-use Rattle.cc_resolve.specs.Environment.{Environment, with_local, with_locals}
-use Rattle.cc_cminor.specs.Cminor as cminor
-use Rattle.cc_cminor.specs.internal.Statements as codes
-use Rattle.cc_cminor.specs.Code.{statement_of}
-use Rattle.cc_cminor.specs.declared.code.Statement.{Statement}
+use Rattle.cc_layout.specs.Environment.{Environment, with_local, with_locals}
+use Rattle.cc_cminor_language.specs.Cminor as cminor
+use Rattle.cc_cminor_language.specs.Statements as codes
+use Rattle.cc_cminor_language.specs.Code.{statement_of}
+use Rattle.cc_cminor_language.specs.declared.code.Statement.{Statement}
 use Rattle.cc_cminor.specs.internal.Lowering.{initialised}
-use Rattle.cc_cminor.proofs.Codes.{on_ok, statements_push}
+use Rattle.cc_cminor_language.proofs.Codes.{on_ok, statements_push}
 use Rattle.cc_cminor.proofs.statements.declarator.Goals as goal
 
 pub returns-clause-code : goal.returns-clause-code

@@ -1,12 +1,12 @@
 use Rattle.std.proofs.Common.{◌≡◌, ◌++◌, ◌∷◌, [], Some, suc, ◌∙◌, sym, ap}
 use Rattle.cc_ast.specs.Erase.{expression_tree, optional_tree}
 use Rattle.cc_ast.specs.declared.ast.Expression as tree
-use Rattle.cc_cminor.specs.Cminor as cminor
-use Rattle.cc_cminor.specs.internal.Statements as codes
-use Rattle.cc_cminor.specs.Code.{statement_of}
+use Rattle.cc_cminor_language.specs.Cminor as cminor
+use Rattle.cc_cminor_language.specs.Statements as codes
+use Rattle.cc_cminor_language.specs.Code.{statement_of}
 use Rattle.cc_cminor.specs.internal.Lowering.{using, initialised}
 use Rattle.cc_cminor.specs.internal.Taken.{taken_of, behind_code, code_before}
-use Rattle.cc_cminor.proofs.Codes.{statements_push}
+use Rattle.cc_cminor_language.proofs.Codes.{statements_push}
 use Rattle.cc_cminor.proofs.Listing.{initial-is}
 use Rattle.cc_cminor.proofs.statements.initialise.Goals as goal
 

@@ -1,6 +1,6 @@
 use Rattle.std.proofs.Common.{ap, arith}
 use Rattle.cc_ast.specs.Erase.{object_tree, object_trees}
-use Rattle.cc_types.proofs.SameTypes.{drop-item}
+use Rattle.cc_types.proofs.Items.{drop-item}
 use Rattle.cc_emit.proofs.Addresses.{next_fits}
 use Rattle.cc_emit.proofs.bases.add_bases.Goals as goal
 

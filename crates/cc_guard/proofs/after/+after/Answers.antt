@@ -1,7 +1,7 @@
 -- What is known after a sequence is what is known after the list of its statements.
 use Rattle.std.proofs.Common.{◌∙◌, ap}
-use Rattle.cc_cminor.specs.Cminor as cminor
-use Rattle.cc_cminor.proofs.Codes.{if_ok}
+use Rattle.cc_cminor_language.specs.Cminor as cminor
+use Rattle.cc_cminor_language.proofs.Codes.{if_ok}
 use Rattle.cc_guard.specs.Guard.{known_after}
 use Rattle.cc_guard.specs.internal.Written.{sizes_of}
 use Rattle.cc_guard.proofs.Writing.{same_sequence}

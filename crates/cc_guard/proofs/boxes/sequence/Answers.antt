@@ -1,6 +1,6 @@
 use Rattle.std.proofs.Common.{◌∙◌, ap}
-use Rattle.cc_cminor.specs.Code.{statement_of}
-use Rattle.cc_cminor.proofs.Codes.{if_ok, sequence_is}
+use Rattle.cc_cminor_language.specs.Code.{statement_of}
+use Rattle.cc_cminor_language.proofs.Codes.{if_ok, sequence_is}
 use Rattle.cc_guard.proofs.boxes.sequence.Goals as goal
 
 pub returns : goal.returns

@@ -1,7 +1,7 @@
 -- Control reaches the end of a sequence exactly if it reaches the end of the last statement of its list.
 use Rattle.std.proofs.Common.{◌∙◌, ap}
-use Rattle.cc_cminor.specs.Cminor as cminor
-use Rattle.cc_cminor.specs.internal.Statements.{statements_of}
+use Rattle.cc_cminor_language.specs.Cminor as cminor
+use Rattle.cc_cminor_language.specs.Statements.{statements_of}
 use Rattle.cc_guard.specs.Guard.{falls}
 use Rattle.cc_guard.proofs.Writing.{last_is, same_sequence}
 use Rattle.cc_guard.proofs.changed.+falling.Goals as goal

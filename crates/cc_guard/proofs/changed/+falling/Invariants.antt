@@ -1,6 +1,6 @@
 use Rattle.std.proofs.Common.{◌≡◌, drop}
-use Rattle.cc_cminor.specs.Code.{in_sequence}
-use Rattle.cc_cminor.specs.internal.Statements.{statements_of}
+use Rattle.cc_cminor_language.specs.Code.{in_sequence}
+use Rattle.cc_cminor_language.specs.Statements.{statements_of}
 use Rattle.cc_guard.specs.Guard.{falls}
 use Rattle.cc_guard.proofs.Writing.{last_falls}
 use Rattle.cc_guard.proofs.changed.+falling.Given as goal

@@ -1,7 +1,7 @@
 -- An exit in a sequence leaves the block exactly if an exit in one of the statements of its list does.
 use Rattle.std.proofs.Common.{◌∙◌, ap}
-use Rattle.cc_cminor.specs.Cminor as cminor
-use Rattle.cc_cminor.proofs.Codes.{if_ok}
+use Rattle.cc_cminor_language.specs.Cminor as cminor
+use Rattle.cc_cminor_language.proofs.Codes.{if_ok}
 use Rattle.cc_guard.specs.Guard.{leaves}
 use Rattle.cc_guard.proofs.Writing.{same_sequence}
 use Rattle.cc_guard.proofs.changed.+leaving.Goals as goal

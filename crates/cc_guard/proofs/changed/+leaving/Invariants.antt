@@ -1,7 +1,7 @@
 use Rattle.std.proofs.Common.{◌≡◌, drop}
 use Rattle.std.specs.Prelude.{◌||◌}
-use Rattle.cc_cminor.specs.Code.{in_sequence}
-use Rattle.cc_cminor.specs.internal.Statements.{statements_of}
+use Rattle.cc_cminor_language.specs.Code.{in_sequence}
+use Rattle.cc_cminor_language.specs.Statements.{statements_of}
 use Rattle.cc_guard.specs.Guard.{leaves}
 use Rattle.cc_guard.proofs.changed.+leaving.Given as goal
 

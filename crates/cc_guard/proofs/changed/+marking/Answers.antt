@@ -1,11 +1,11 @@
 -- A sequence sets the same variables as the list of its statements.
 use Rattle.std.proofs.Common.{◌+◌, List, drop, sym, subst}
 use Rattle.std.proofs.lemmas.List.{drop_all}
-use Rattle.cc_types.proofs.SameTypes.{drop-item}
-use Rattle.cc_cminor.specs.Cminor as cminor
-use Rattle.cc_cminor.specs.Code.{statement_of, in_sequence}
-use Rattle.cc_cminor.specs.internal.Statements.{statements_of}
-use Rattle.cc_cminor.specs.declared.code.Statement as code
+use Rattle.cc_types.proofs.Items.{drop-item}
+use Rattle.cc_cminor_language.specs.Cminor as cminor
+use Rattle.cc_cminor_language.specs.Code.{statement_of, in_sequence}
+use Rattle.cc_cminor_language.specs.Statements.{statements_of}
+use Rattle.cc_cminor_language.specs.declared.code.Statement as code
 use Rattle.cc_guard.specs.Guard.{sets}
 use Rattle.cc_guard.specs.internal.Marks.{Marks}
 use Rattle.cc_guard.proofs.Writing.{same_sequence}

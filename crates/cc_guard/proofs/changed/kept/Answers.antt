@@ -1,6 +1,6 @@
 -- Two cases: the next bound is kept, or it is dropped.
 use Rattle.std.proofs.Common.{◌+◌, ◌∙◌, Bool, List, ◌++◌, drop, sym, ap, subst}
-use Rattle.cc_cminor.specs.Code.{statement_of}
+use Rattle.cc_cminor_language.specs.Code.{statement_of}
 use Rattle.cc_guard.specs.declared.known.Limit.{Limit}
 use Rattle.cc_guard.specs.Guard.{sets, kept}
 use Rattle.cc_guard.specs.internal.Marks.{IsMarked}

@@ -1,5 +1,5 @@
 use Rattle.std.proofs.Common.{◌≡◌, ◌++◌, drop}
-use Rattle.cc_cminor.specs.Code.{statement_of}
+use Rattle.cc_cminor_language.specs.Code.{statement_of}
 use Rattle.cc_guard.specs.Guard.{unset, kept}
 use Rattle.cc_guard.proofs.changed.kept_set.Given as goal
 

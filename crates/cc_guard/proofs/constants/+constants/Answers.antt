@@ -1,11 +1,11 @@
 -- The constants of a sequence are those of the statements in its list.
 use Rattle.std.proofs.Common.{◌+◌, List, [], ◌∷◌, drop, sym, subst}
 use Rattle.std.proofs.lemmas.List.{drop_all}
-use Rattle.cc_types.proofs.SameTypes.{drop-item}
-use Rattle.cc_cminor.specs.Cminor as cminor
-use Rattle.cc_cminor.specs.Code.{statement_of, in_sequence}
-use Rattle.cc_cminor.specs.internal.Statements.{statements_of}
-use Rattle.cc_cminor.specs.declared.code.Statement as code
+use Rattle.cc_types.proofs.Items.{drop-item}
+use Rattle.cc_cminor_language.specs.Cminor as cminor
+use Rattle.cc_cminor_language.specs.Code.{statement_of, in_sequence}
+use Rattle.cc_cminor_language.specs.Statements.{statements_of}
+use Rattle.cc_cminor_language.specs.declared.code.Statement as code
 use Rattle.cc_guard.specs.Safe.{CodeConstantsFit}
 use Rattle.cc_guard.proofs.Writing.{same_sequence}
 use Rattle.cc_guard.proofs.constants.+constants.Goals as goal

@@ -1,8 +1,8 @@
 use Rattle.std.proofs.Common.{List, sym, subst}
 use Rattle.std.proofs.lemmas.List.{drop_all}
-use Rattle.cc_types.proofs.SameTypes.{drop-item}
-use Rattle.cc_cminor.specs.Code.{expressions_of}
-use Rattle.cc_cminor.specs.declared.code.Expression as expression
+use Rattle.cc_types.proofs.Items.{drop-item}
+use Rattle.cc_cminor_language.specs.Code.{expressions_of}
+use Rattle.cc_cminor_language.specs.declared.code.Expression as expression
 use Rattle.cc_guard.specs.Safe.{AllConstantsFit}
 use Rattle.cc_guard.proofs.constants.expressions_fit.Goals as goal
 

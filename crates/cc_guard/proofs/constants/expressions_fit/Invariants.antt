@@ -1,5 +1,5 @@
 use Rattle.std.proofs.Common.{drop}
-use Rattle.cc_cminor.specs.Code.{expressions_of}
+use Rattle.cc_cminor_language.specs.Code.{expressions_of}
 use Rattle.cc_guard.specs.Safe.{AllConstantsFit}
 use Rattle.cc_guard.proofs.constants.expressions_fit.Given as goal
 

@@ -1,9 +1,9 @@
 use Rattle.std.proofs.Common.{◌≡◌, ◌+◌, ◌∙◌, List, [], ◌∷◌, ◌++◌, drop, sym, ap, append_assoc}
-use Rattle.cc_types.proofs.SameTypes.{drop-item}
-use Rattle.cc_cminor.specs.Code.{expression_of, expressions_of}
-use Rattle.cc_cminor.specs.internal.Statements.{statements_of}
-use Rattle.cc_cminor.specs.declared.code.Expression as expression
-use Rattle.cc_cminor.proofs.Codes.{expressions_push}
+use Rattle.cc_types.proofs.Items.{drop-item}
+use Rattle.cc_cminor_language.specs.Code.{expression_of, expressions_of}
+use Rattle.cc_cminor_language.specs.Statements.{statements_of}
+use Rattle.cc_cminor_language.specs.declared.code.Expression as expression
+use Rattle.cc_cminor_language.proofs.Codes.{expressions_push}
 use Rattle.cc_guard.specs.Guard.{GuardedAll, guarded, guarded_all}
 use Rattle.cc_guard.specs.internal.Written.{codes, sizes_of}
 use Rattle.cc_guard.proofs.Writing.{codes_then}

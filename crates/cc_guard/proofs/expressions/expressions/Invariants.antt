@@ -1,6 +1,6 @@
 use Rattle.std.proofs.Common.{◌≡◌, ◌++◌, drop}
-use Rattle.cc_cminor.specs.Code.{expressions_of}
-use Rattle.cc_cminor.specs.internal.Statements.{statements_of}
+use Rattle.cc_cminor_language.specs.Code.{expressions_of}
+use Rattle.cc_cminor_language.specs.Statements.{statements_of}
 use Rattle.cc_guard.specs.Guard.{guarded_all}
 use Rattle.cc_guard.specs.internal.Written.{codes, sizes_of}
 use Rattle.cc_guard.proofs.expressions.expressions.Given as goal

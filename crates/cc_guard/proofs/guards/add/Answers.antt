@@ -1,7 +1,7 @@
 use Rattle.std.proofs.Common.{◌∙◌, ap, [], ◌∷◌, ◌++◌}
-use Rattle.cc_cminor.specs.Code.{statement_of}
-use Rattle.cc_cminor.specs.internal.Statements.{statements_of}
-use Rattle.cc_cminor.proofs.Codes.{statements_push}
+use Rattle.cc_cminor_language.specs.Code.{statement_of}
+use Rattle.cc_cminor_language.specs.Statements.{statements_of}
+use Rattle.cc_cminor_language.proofs.Codes.{statements_push}
 use Rattle.cc_guard.proofs.guards.add.Goals as goal
 
 pub returns-clause-before : goal.returns-clause-before

@@ -1,7 +1,7 @@
 use Rattle.std.proofs.Common.{◌∙◌, ap}
-use Rattle.cc_cminor.specs.Code.{in_sequence}
-use Rattle.cc_cminor.specs.internal.Statements.{statements_of}
-use Rattle.cc_cminor.proofs.Codes.{if_ok, statements_push}
+use Rattle.cc_cminor_language.specs.Code.{in_sequence}
+use Rattle.cc_cminor_language.specs.Statements.{statements_of}
+use Rattle.cc_cminor_language.proofs.Codes.{if_ok, statements_push}
 use Rattle.cc_guard.proofs.guards.finished.Goals as goal
 
 pub returns : goal.returns

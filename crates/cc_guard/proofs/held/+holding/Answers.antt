@@ -1,12 +1,12 @@
 -- A sequence is rewritten as the list of its statements is.
 use Rattle.std.proofs.Common.{◌+◌, ◌∙◌, List, [], ◌∷◌, ◌++◌, drop, sym, ap, append-nil, append_assoc}
 use Rattle.std.proofs.lemmas.List.{drop_all}
-use Rattle.cc_types.proofs.SameTypes.{drop-item}
-use Rattle.cc_cminor.specs.Cminor as cminor
-use Rattle.cc_cminor.specs.Code.{statement_of, in_sequence}
-use Rattle.cc_cminor.specs.internal.Statements.{statements_of}
-use Rattle.cc_cminor.specs.declared.code.Statement as code
-use Rattle.cc_cminor.proofs.Codes.{if_ok, statements_push}
+use Rattle.cc_types.proofs.Items.{drop-item}
+use Rattle.cc_cminor_language.specs.Cminor as cminor
+use Rattle.cc_cminor_language.specs.Code.{statement_of, in_sequence}
+use Rattle.cc_cminor_language.specs.Statements.{statements_of}
+use Rattle.cc_cminor_language.specs.declared.code.Statement as code
+use Rattle.cc_cminor_language.proofs.Codes.{if_ok, statements_push}
 use Rattle.cc_guard.specs.Held.{held_in}
 use Rattle.cc_guard.proofs.Writing.{same_sequence}
 use Rattle.cc_guard.proofs.HeldWriting.{all_held, sequence_held}

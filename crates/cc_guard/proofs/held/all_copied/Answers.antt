@@ -1,8 +1,8 @@
 use Rattle.std.proofs.Common.{◌+◌, ◌∙◌, List, [], ◌∷◌, ◌++◌, drop, sym, ap, append_assoc}
-use Rattle.cc_types.proofs.SameTypes.{drop-item}
-use Rattle.cc_cminor.specs.Code.{expression_of, expressions_of}
-use Rattle.cc_cminor.specs.declared.code.Expression as expression
-use Rattle.cc_cminor.proofs.Codes.{expressions_push}
+use Rattle.cc_types.proofs.Items.{drop-item}
+use Rattle.cc_cminor_language.specs.Code.{expression_of, expressions_of}
+use Rattle.cc_cminor_language.specs.declared.code.Expression as expression
+use Rattle.cc_cminor_language.proofs.Codes.{expressions_push}
 use Rattle.cc_guard.proofs.held.all_copied.Goals as goal
 
 pub loop-e-preserved : goal.loop-e-preserved

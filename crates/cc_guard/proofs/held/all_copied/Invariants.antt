@@ -1,5 +1,5 @@
 use Rattle.std.proofs.Common.{◌≡◌, ◌++◌, drop}
-use Rattle.cc_cminor.specs.Code.{expressions_of}
+use Rattle.cc_cminor_language.specs.Code.{expressions_of}
 use Rattle.cc_guard.proofs.held.all_copied.Given as goal
 
 -- the copies, followed by the rest, are all the expressions

@@ -1,11 +1,11 @@
 -- The statements that put the words into variables come first.
 use Rattle.std.proofs.Common.{◌≡◌, ℕ, suc, ◌+◌, ◌∙◌, List, [], ◌∷◌, ◌++◌, drop, get_or, sym, ap, append-nil, append_assoc, drop-cons, arith}
 use Rattle.std.proofs.lemmas.List.{drop_all}
-use Rattle.cc_cminor.specs.Cminor.{Expression, Constant, Set}
-use Rattle.cc_cminor.specs.Code.{statement_of, in_sequence}
-use Rattle.cc_cminor.specs.internal.Statements.{statements_of}
-use Rattle.cc_cminor.specs.declared.code.Statement as code
-use Rattle.cc_cminor.proofs.Codes.{if_ok, statements_push}
+use Rattle.cc_cminor_language.specs.Cminor.{Expression, Constant, Set}
+use Rattle.cc_cminor_language.specs.Code.{statement_of, in_sequence}
+use Rattle.cc_cminor_language.specs.Statements.{statements_of}
+use Rattle.cc_cminor_language.specs.declared.code.Statement as code
+use Rattle.cc_cminor_language.proofs.Codes.{if_ok, statements_push}
 use Rattle.cc_guard.specs.Held.{held_in}
 use Rattle.cc_guard.proofs.HeldWriting.{puts_code, first_code}
 use Rattle.cc_guard.proofs.held.with_words.Goals as goal

@@ -1,5 +1,5 @@
 use Rattle.std.proofs.Common.{◌≡◌, ◌++◌, drop}
-use Rattle.cc_cminor.specs.internal.Statements.{statements_of}
+use Rattle.cc_cminor_language.specs.Statements.{statements_of}
 use Rattle.cc_guard.proofs.HeldWriting.{puts_code}
 use Rattle.cc_guard.proofs.held.with_words.Given as goal
 

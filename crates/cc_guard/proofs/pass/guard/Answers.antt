@@ -2,7 +2,7 @@
 use Rattle.std.proofs.Common.{refl}
 use Rattle.std.specs.Arc.{arc_value}
 use Rattle.cc_c_semantics.specs.declared.mode.Mode.TheVariants.{Checked}
-use Rattle.cc_cminor.specs.Pair.{IsPair}
+use Rattle.cc_cminor_language.specs.Pair.{IsPair}
 use Rattle.cc_guard.proofs.Lowered.{guarded_is_pair}
 use Rattle.cc_guard.proofs.pass.guard.Goals as goal
 

@@ -2,9 +2,9 @@
 use Rattle.std.proofs.Common.{◌≤◌, ◌∙◌, [], sym, ap, subst, arith}
 use Rattle.std.proofs.Math.Nat.{le-max_right}
 use Rattle.cc_c_semantics.specs.Numbered.{objects_in}
-use Rattle.cc_cminor.specs.Numbers.{most_variables, StatementFits}
-use Rattle.cc_cminor.specs.Pair.{tree_of, code_of}
-use Rattle.cc_cminor.specs.Variables.{above_statement}
+use Rattle.cc_cminor_language.specs.Numbers.{most_variables, StatementFits}
+use Rattle.cc_cminor_language.specs.Pair.{tree_of, code_of}
+use Rattle.cc_cminor_language.specs.Variables.{above_statement}
 use Rattle.cc_guard.specs.Guard.{with_loop, variables_in}
 use Rattle.cc_guard.proofs.Numbered.{loop_fits}
 use Rattle.cc_guard.proofs.Unguarded.{same_code}

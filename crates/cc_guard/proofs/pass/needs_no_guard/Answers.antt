@@ -1,9 +1,9 @@
 -- Code into which the pass puts no guard needs no guard.
 use Rattle.std.proofs.Common.{◌≡◌, Bool, true, false, refl, sym, ◌∙◌, subst}
 use Rattle.std.specs.Prelude.{not}
-use Rattle.cc_cminor.specs.Pair.{tree_of, code_of}
-use Rattle.cc_cminor.specs.Code.{statement_of}
-use Rattle.cc_cminor.specs.declared.code.Statement as code
+use Rattle.cc_cminor_language.specs.Pair.{tree_of, code_of}
+use Rattle.cc_cminor_language.specs.Code.{statement_of}
+use Rattle.cc_cminor_language.specs.declared.code.Statement as code
 use Rattle.cc_guard.specs.Safe.{CodeConstantsFit}
 use Rattle.cc_guard.proofs.Lowered.{unguarded_needs_none}
 use Rattle.cc_guard.proofs.pass.needs_no_guard.Goals as goal

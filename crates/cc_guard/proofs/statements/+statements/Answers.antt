@@ -1,13 +1,13 @@
 -- A sequence is written as the list of its statements is, and an `If` comes after its guards.
 use Rattle.std.proofs.Common.{◌≡◌, ◌+◌, ◌∙◌, Bool, true, false, List, [], ◌∷◌, ◌++◌, drop, sym, ap, subst, append-nil, append_assoc}
 use Rattle.std.proofs.lemmas.List.{drop_all}
-use Rattle.cc_types.proofs.SameTypes.{drop-item}
-use Rattle.cc_cminor.specs.Cminor as cminor
-use Rattle.cc_cminor.specs.Code.{expression_of, statement_of, in_sequence}
-use Rattle.cc_cminor.specs.internal.Statements.{statements_of}
-use Rattle.cc_cminor.specs.declared.code.Expression as expression
-use Rattle.cc_cminor.specs.declared.code.Statement as code
-use Rattle.cc_cminor.proofs.Codes.{on_ok, statements_push}
+use Rattle.cc_types.proofs.Items.{drop-item}
+use Rattle.cc_cminor_language.specs.Cminor as cminor
+use Rattle.cc_cminor_language.specs.Code.{expression_of, statement_of, in_sequence}
+use Rattle.cc_cminor_language.specs.Statements.{statements_of}
+use Rattle.cc_cminor_language.specs.declared.code.Expression as expression
+use Rattle.cc_cminor_language.specs.declared.code.Statement as code
+use Rattle.cc_cminor_language.proofs.Codes.{on_ok, statements_push}
 use Rattle.cc_guard.specs.declared.known.Limit.{Limit}
 use Rattle.std.specs.Prelude.{◌||◌, max, IfOk}
 use Rattle.cc_guard.specs.declared.statements.Done.{Done}

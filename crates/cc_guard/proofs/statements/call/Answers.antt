@@ -1,7 +1,7 @@
 use Rattle.std.proofs.Common.{◌∙◌, ap}
-use Rattle.cc_cminor.specs.Cminor as cminor
-use Rattle.cc_cminor.specs.Code.{expressions_of}
-use Rattle.cc_cminor.proofs.Codes.{if_ok}
+use Rattle.cc_cminor_language.specs.Cminor as cminor
+use Rattle.cc_cminor_language.specs.Code.{expressions_of}
+use Rattle.cc_cminor_language.proofs.Codes.{if_ok}
 use Rattle.cc_guard.specs.Guard.{guards_then, guarded_all}
 use Rattle.cc_guard.specs.internal.Written.{sizes_of}
 use Rattle.cc_guard.proofs.Writing.{all_wrote, written_then}

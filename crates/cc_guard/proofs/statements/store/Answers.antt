@@ -1,7 +1,7 @@
 use Rattle.std.proofs.Common.{◌∙◌, ◌++◌, ap}
-use Rattle.cc_cminor.specs.Cminor as cminor
-use Rattle.cc_cminor.specs.Code.{expression_of}
-use Rattle.cc_cminor.proofs.Codes.{if_ok}
+use Rattle.cc_cminor_language.specs.Cminor as cminor
+use Rattle.cc_cminor_language.specs.Code.{expression_of}
+use Rattle.cc_cminor_language.proofs.Codes.{if_ok}
 use Rattle.cc_guard.specs.Guard.{first_index, stored_word, guards_then}
 use Rattle.cc_guard.specs.internal.Written.{sizes_of}
 use Rattle.cc_guard.proofs.Writing.{store_wrote, store_index, store_word, written_then, sees_wrote, on_ok_all}

@@ -2,7 +2,7 @@
 use Rattle.std.proofs.Common.{◌≡◌, ◌+◌, ◌++◌, List, ℕ, drop, ap, subst, ◌∙◌}
 use Rattle.cc_ast.specs.Erase.{external_tree, external_trees}
 use Rattle.cc_types.specs.Limits.{objects}
-use Rattle.cc_types.proofs.SameTypes.{drop-item}
+use Rattle.cc_types.proofs.Items.{drop-item}
 use Rattle.cc_link.specs.Packed.{image_words}
 use Rattle.cc_link.proofs.Packing.{declaration_more}
 use Rattle.cc_link.proofs.globals.image_words.Goals as goal

@@ -1,7 +1,7 @@
 -- If code is too large, its definition is long.
 use Rattle.cc_c_semantics.specs.Numbered.{objects_in}
-use Rattle.cc_cminor.specs.Pair.{tree_of, code_of}
-use Rattle.cc_cminor.specs.Variables.{above_statement}
+use Rattle.cc_cminor_language.specs.Pair.{tree_of, code_of}
+use Rattle.cc_cminor_language.specs.Variables.{above_statement}
 use Rattle.cc_mode.proofs.Tokens.{nodes_long, variables_long}
 use Rattle.cc_mode.proofs.guarding.checked.Goals as goal
 

@@ -1,5 +1,5 @@
 -- If code is too large, its definition is long.
-use Rattle.cc_cminor.specs.Pair.{tree_of, code_of}
+use Rattle.cc_cminor_language.specs.Pair.{tree_of, code_of}
 use Rattle.cc_mode.proofs.Tokens.{plain_long}
 use Rattle.cc_mode.proofs.guarding.plain.Goals as goal
 

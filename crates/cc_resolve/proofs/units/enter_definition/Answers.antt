@@ -1,9 +1,9 @@
 -- The functions of the unit are passed one by one.
 use Rattle.std.proofs.Common.{◌+◌, ◌-◌, drop, refl, subst, ap, ◌∙◌, arith}
 use Rattle.cc_ast.specs.Erase.{signature_tree, statements_of, object_trees, external_trees}
-use Rattle.cc_types.specs.Bindings.{file_level, file_of}
+use Rattle.cc_scope.specs.Bindings.{file_level, file_of}
 use Rattle.cc_types.specs.Scope.{with_objects}
-use Rattle.cc_types.proofs.SameTypes.{drop-item}
+use Rattle.cc_types.proofs.Items.{drop-item}
 use Rattle.cc_resolve.proofs.Entering.{Entering, Entering-first, Entering-declaration, Entering-definition, Entering-objects, Entering-at, Entering-as, Entering-ends}
 use Rattle.cc_resolve.proofs.units.enter_definition.Goals as goal
 use Rattle.cc_resolve.proofs.units.enter_definition.Goals.{in-Declaration+in_ok-declare_function-in-Declaration, in-Definition+else-left-eq0+in_ok-declare_function-in-Definition, in-Objects+in_ok-declare_objects-in-Objects}

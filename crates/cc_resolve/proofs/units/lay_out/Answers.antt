@@ -1,7 +1,7 @@
 -- One more external declaration is added.
 use Rattle.std.proofs.Common.{subst}
 use Rattle.cc_ast.specs.Erase.{external_tree, external_trees}
-use Rattle.cc_types.proofs.SameTypes.{drop-item}
+use Rattle.cc_types.proofs.Items.{drop-item}
 use Rattle.cc_resolve.proofs.Behind.{Finding, Finding-next}
 use Rattle.cc_resolve.proofs.units.lay_out.Goals as goal
 

@@ -1,8 +1,8 @@
 -- The parameters and locals are no longer in scope.
 use Rattle.std.proofs.Common.{[], ◌∙◌, ap}
-use Rattle.cc_types.specs.Bindings.{closed}
+use Rattle.cc_scope.specs.Bindings.{closed}
 use Rattle.cc_types.specs.Scope.{with_function}
-use Rattle.cc_resolve.specs.Environment.{Environment}
+use Rattle.cc_layout.specs.Environment.{Environment}
 use Rattle.cc_resolve.proofs.Behind.{function-closed}
 use Rattle.cc_resolve.proofs.units.leave_function.Goals as goal
 

@@ -1,6 +1,6 @@
 use Rattle.std.proofs.Common.{◌≡◌, ◌+◌, drop}
-use Rattle.cc_cminor.specs.Code.{in_sequence}
-use Rattle.cc_cminor.specs.internal.Statements.{statements_of}
+use Rattle.cc_cminor_language.specs.Code.{in_sequence}
+use Rattle.cc_cminor_language.specs.Statements.{statements_of}
 use Rattle.cc_rtl.specs.Size.{statement_nodes}
 use Rattle.cc_rtl.proofs.size.+statements.Given as goal
 

@@ -1,6 +1,6 @@
 -- Each expression needs at least one node.
 use Rattle.std.proofs.Common.{arith}
-use Rattle.cc_cminor.specs.Code.{expression_of}
+use Rattle.cc_cminor_language.specs.Code.{expression_of}
 use Rattle.cc_rtl.proofs.Sizes.{some_nodes}
 use Rattle.cc_rtl.proofs.size.+values.Goals as goal
 

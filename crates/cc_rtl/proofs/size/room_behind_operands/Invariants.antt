@@ -1,5 +1,5 @@
 use Rattle.std.proofs.Common.{◌≡◌, ◌+◌, drop}
-use Rattle.cc_cminor.specs.Code.{expressions_of}
+use Rattle.cc_cminor_language.specs.Code.{expressions_of}
 use Rattle.cc_rtl.specs.Size.{operands_nodes}
 use Rattle.cc_rtl.proofs.size.room_behind_operands.Given as goal
 

@@ -1,10 +1,10 @@
 -- What is made from a pair of Cminor is a pair of RTL.
 use Rattle.std.proofs.Common.{◌≡◌, ◌∙◌, ◌<◌, length, refl, sym, ap, subst, arith}
 use Rattle.std.specs.Arc.{arc_value}
-use Rattle.cc_cminor.specs.Code.{statement_of}
-use Rattle.cc_cminor.specs.Numbers.{StatementFits}
-use Rattle.cc_cminor.specs.Pair.{code_of}
-use Rattle.cc_cminor.specs.declared.code.Statement as written
+use Rattle.cc_cminor_language.specs.Code.{statement_of}
+use Rattle.cc_cminor_language.specs.Numbers.{StatementFits}
+use Rattle.cc_cminor_language.specs.Pair.{code_of}
+use Rattle.cc_cminor_language.specs.declared.code.Statement as written
 use Rattle.cc_rtl_language.specs.Code.{labelled_of}
 use Rattle.cc_rtl_language.specs.Pair.{Pair, IsPair}
 use Rattle.cc_rtl_language.specs.Rtl.{Rtl}

@@ -1,6 +1,6 @@
 -- The parts of an expression are checked one by one.
 use Rattle.std.proofs.Common.{◌<◌, ℕ, List, ◌∙◌, ap, sym, subst, arith}
-use Rattle.cc_types.proofs.SameTypes.{drop-item}
+use Rattle.cc_types.proofs.Items.{drop-item}
 use Rattle.cc_types.proofs.Trees.{expression_tree-call}
 use Rattle.cc_ast.specs.Erase.{expression_tree}
 use Rattle.cc_ast.specs.internal.Arguments.{expressions_of}

@@ -1,6 +1,6 @@
 -- The parts of a statement are checked one by one.
 use Rattle.std.proofs.Common.{◌<◌, ℕ, List, ◌∙◌, ap, sym, subst}
-use Rattle.cc_types.proofs.SameTypes.{drop-item}
+use Rattle.cc_types.proofs.Items.{drop-item}
 use Rattle.cc_types.proofs.Trees.{statement_tree-block, statement_tree-if, statement_tree-if_else, statement_tree-while, statement_tree-do_while, statement_tree-for}
 use Rattle.cc_ast.specs.Erase.{beginning_tree, expression_tree, statement_tree, statements_of}
 use Rattle.cc_ast.specs.declared.ast.Beginning.{Beginning}

@@ -3,7 +3,7 @@ use Rattle.std.proofs.Common.{◌∙◌, ap, sym, arith, length}
 use Rattle.std.specs.Arc.{arc_value}
 use Rattle.cc_ast.specs.Source.{source}
 use Rattle.cc_types.specs.Typed.{defined_names}
-use Rattle.cc_cminor.specs.Cminor.{Statement}
+use Rattle.cc_cminor_language.specs.Cminor.{Statement}
 use Rattle.cc_guard.specs.Safe.{NeedsNoGuard}
 use Rattle.cc_link.proofs.Deciding.{defined_long}
 use Rattle.cc_safe.proofs.Numbers.{below_next, got_one}

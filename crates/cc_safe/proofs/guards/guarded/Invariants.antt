@@ -2,7 +2,7 @@
 use Rattle.std.proofs.Common.{◌≡◌, ◌<◌, ℕ, []}
 use Rattle.std.specs.Arc.{arc_value}
 use Rattle.cc_ast.specs.Source.{source}
-use Rattle.cc_cminor.specs.Cminor.{Statement}
+use Rattle.cc_cminor_language.specs.Cminor.{Statement}
 use Rattle.cc_guard.specs.Safe.{NeedsNoGuard}
 use Rattle.cc_safe.proofs.guards.guarded.Given as goal
 

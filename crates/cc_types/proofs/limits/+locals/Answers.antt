@@ -6,7 +6,7 @@ use Rattle.cc_types.specs.Counts.{count_after}
 use Rattle.cc_types.specs.Limits.{beginning_names, locals_of, locals}
 use Rattle.cc_types.proofs.Counting.{count-next, count-two}
 use Rattle.cc_types.proofs.Trees.{statement_tree-block, statement_tree-if_else, statement_tree-for}
-use Rattle.cc_types.proofs.SameTypes.{drop-item}
+use Rattle.cc_types.proofs.Items.{drop-item}
 use Rattle.cc_types.proofs.limits.+locals.Goals as goal
 
 pub count_locals-loop-statement-preserved : goal.count_locals-loop-statement-preserved

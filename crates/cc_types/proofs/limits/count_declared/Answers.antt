@@ -3,7 +3,7 @@ use Rattle.std.proofs.Common.{◌+◌, [], ◌∷◌, ap, drop}
 use Rattle.cc_ast.specs.Erase.{name_tree, declarator_trees}
 use Rattle.cc_types.specs.Limits.{declared_names}
 use Rattle.cc_types.proofs.Counting.{count-next}
-use Rattle.cc_types.proofs.SameTypes.{drop-item}
+use Rattle.cc_types.proofs.Items.{drop-item}
 use Rattle.cc_types.proofs.limits.count_declared.Goals as goal
 
 pub loop-declarator-preserved : goal.loop-declarator-preserved

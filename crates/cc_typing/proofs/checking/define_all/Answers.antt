@@ -4,7 +4,7 @@ use Rattle.std.proofs.Math.ListN.{drop_of_length-le}
 use Rattle.cc_ast.specs.Erase.{external_trees}
 use Rattle.cc_typing.specs.internal.Counts.{all_defined}
 use Rattle.cc_typing.specs.internal.Functions.{Functions}
-use Rattle.cc_types.proofs.SameTypes.{drop-item}
+use Rattle.cc_types.proofs.Items.{drop-item}
 use Rattle.cc_typing.proofs.checking.define_all.Goals as goal
 
 pub loop-external-preserved : goal.loop-external-preserved

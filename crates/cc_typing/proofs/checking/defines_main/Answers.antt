@@ -3,7 +3,7 @@ use Rattle.std.proofs.Common.{◌≡◌, ◌∙◌, ◌+◌, ◌||◌, true, fal
 use Rattle.std.proofs.Math.ListN.{drop_of_length-le}
 use Rattle.cc_ast.specs.Erase.{external_tree, external_trees}
 use Rattle.cc_types.specs.Rules.{is_main, defines_main}
-use Rattle.cc_types.proofs.SameTypes.{drop-item}
+use Rattle.cc_types.proofs.Items.{drop-item}
 use Rattle.cc_typing.proofs.checking.defines_main.Goals as goal
 
 pub loop-external-preserved : goal.loop-external-preserved

@@ -9,7 +9,7 @@ use Rattle.cc_types.specs.Scope.{found, in_scope}
 use Rattle.cc_typing.proofs.Parts.{next, last, two, three, after_noted}
 use Rattle.cc_typing.specs.internal.Findings.{after}
 use Rattle.cc_types.proofs.Trees.{expression_tree-call, count_of-expressions}
-use Rattle.cc_types.proofs.SameTypes.{drop-item}
+use Rattle.cc_types.proofs.Items.{drop-item}
 use Rattle.cc_typing.proofs.expressions.+expressions.Goals as goal
 
 pub arguments-loop-tree-preserved : goal.arguments-loop-tree-preserved

@@ -4,7 +4,7 @@ use Rattle.std.proofs.Math.ListN.{drop_of_length-le}
 use Rattle.cc_ast.specs.Erase.{external_tree, external_trees}
 use Rattle.cc_typing.specs.internal.Findings.{Found}
 use Rattle.cc_typing.proofs.FileScopes.{Declaring, Declaring-next}
-use Rattle.cc_types.proofs.SameTypes.{drop-item}
+use Rattle.cc_types.proofs.Items.{drop-item}
 use Rattle.cc_typing.proofs.externals.all_externals.Goals as goal
 
 pub loop-tree-preserved : goal.loop-tree-preserved

@@ -3,7 +3,7 @@ use Rattle.std.proofs.Common.{◌≡◌, ◌∙◌, List, [], ◌∷◌, suc, le
 use Rattle.std.specs.Prelude.{is_some}
 use Rattle.cc_ast.specs.Erase.{name_tree, optional_constant, constant_trees}
 use Rattle.cc_ast.specs.declared.ast.ConstantExpression.{ConstantExpression}
-use Rattle.cc_types.specs.Bindings.{file_level, file_of}
+use Rattle.cc_scope.specs.Bindings.{file_level, file_of}
 use Rattle.cc_typing.specs.internal.Findings.{is_bad_length}
 use Rattle.cc_types.specs.Scope.{Elements, is_declared, in_scope, with_declared}
 use Rattle.cc_types.specs.Types.{array_length}

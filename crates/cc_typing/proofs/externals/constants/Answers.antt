@@ -4,7 +4,7 @@ use Rattle.cc_ast.specs.Erase.{constant_tree, constant_trees}
 use Rattle.cc_types.specs.Rules.{constant_errors, constants_errors, called_in_constant, called_in_constants}
 use Rattle.cc_types.specs.Scope.{in_scope}
 use Rattle.cc_typing.proofs.Parts.{next}
-use Rattle.cc_types.proofs.SameTypes.{drop-item}
+use Rattle.cc_types.proofs.Items.{drop-item}
 use Rattle.cc_typing.proofs.externals.constants.Goals as goal
 
 pub loop-tree-preserved : goal.loop-tree-preserved

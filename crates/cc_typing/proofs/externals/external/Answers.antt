@@ -1,7 +1,7 @@
 -- One proof for each kind of external declaration.
 use Rattle.std.proofs.Common.{◌≡◌, ◌∙◌, ◌∷◌, [], false, ap}
 use Rattle.cc_ast.specs.Erase.{signature_tree, statements_of, object_trees, external_tree}
-use Rattle.cc_types.specs.Bindings.{file_level, file_of}
+use Rattle.cc_scope.specs.Bindings.{file_level, file_of}
 use Rattle.cc_typing.specs.internal.Findings.{Found, after, with_before}
 use Rattle.cc_types.specs.Rules.{objects_errors, statements_errors, called_in_objects, called_in_statements}
 use Rattle.cc_types.specs.Scope.{has_name, with_objects}

@@ -2,7 +2,7 @@
 use Rattle.std.proofs.Common.{subst}
 use Rattle.cc_ast.specs.Erase.{object_tree, object_trees}
 use Rattle.cc_typing.proofs.FileScopes.{Objecting, Objecting-next}
-use Rattle.cc_types.proofs.SameTypes.{drop-item}
+use Rattle.cc_types.proofs.Items.{drop-item}
 use Rattle.cc_typing.proofs.externals.objects.Goals as goal
 
 pub loop-tree-preserved : goal.loop-tree-preserved

@@ -2,7 +2,7 @@
 use Rattle.std.proofs.Common.{subst}
 use Rattle.cc_ast.specs.Erase.{parameter_tree, parameter_trees}
 use Rattle.cc_typing.proofs.FileScopes.{Parametering, Parametering-next}
-use Rattle.cc_types.proofs.SameTypes.{drop-item}
+use Rattle.cc_types.proofs.Items.{drop-item}
 use Rattle.cc_typing.proofs.externals.parameters.Goals as goal
 
 pub loop-tree-preserved : goal.loop-tree-preserved

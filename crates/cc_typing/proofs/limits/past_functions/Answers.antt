@@ -5,7 +5,7 @@ use Rattle.cc_types.specs.internal.Externals.{defines}
 use Rattle.cc_types.specs.Limits.{function_names}
 use Rattle.cc_types.proofs.Counting.{count-next}
 use Rattle.cc_types.proofs.Definitions.{function_names-next}
-use Rattle.cc_types.proofs.SameTypes.{drop-item}
+use Rattle.cc_types.proofs.Items.{drop-item}
 use Rattle.cc_typing.proofs.limits.past_functions.Goals as goal
 
 pub loop-external-preserved : goal.loop-external-preserved

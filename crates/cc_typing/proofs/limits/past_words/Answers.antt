@@ -6,7 +6,7 @@ use Rattle.cc_types.specs.internal.Externals.{objects_in}
 use Rattle.cc_types.specs.Limits.{objects}
 use Rattle.cc_typing.proofs.Excesses.{words_words}
 use Rattle.cc_types.proofs.Definitions.{objects-next}
-use Rattle.cc_types.proofs.SameTypes.{drop-item}
+use Rattle.cc_types.proofs.Items.{drop-item}
 use Rattle.cc_typing.proofs.limits.past_words.Goals as goal
 
 pub loop-external-preserved : goal.loop-external-preserved

@@ -4,7 +4,7 @@ use Rattle.cc_ast.specs.Erase.{external_tree, external_trees}
 use Rattle.cc_typing.specs.internal.Findings.{noted}
 use Rattle.cc_types.specs.Limits.{external_excesses, externals_excesses}
 use Rattle.cc_typing.proofs.Parts.{noted-append}
-use Rattle.cc_types.proofs.SameTypes.{drop-item}
+use Rattle.cc_types.proofs.Items.{drop-item}
 use Rattle.cc_typing.proofs.limits.with_externals.Goals as goal
 
 pub loop-external-preserved : goal.loop-external-preserved

@@ -5,7 +5,7 @@ use Rattle.cc_ast.specs.Tree.{If, IfElse, While, DoWhile, For}
 use Rattle.cc_typing.specs.internal.Findings.{after, around_of}
 use Rattle.cc_types.specs.Scope.{Visible, in_scope, opened}
 use Rattle.cc_types.specs.Rules.{value_errors, statement_errors, statements_errors, called_in, called_in_statement, called_in_statements}
-use Rattle.cc_types.proofs.SameTypes.{drop-item}
+use Rattle.cc_types.proofs.Items.{drop-item}
 use Rattle.cc_types.proofs.Trees.{statement_tree-block, statement_tree-if, statement_tree-if_else, statement_tree-while, statement_tree-do_while, statement_tree-for}
 use Rattle.cc_types.proofs.Success.{on_ok}
 use Rattle.cc_typing.proofs.Walks.{scope_behind_outer, scope_behind_beginning_outer, closes, closed-is, Walking, Walking-next, if-found, if_else-found, while-found, do_while-found, for-found}

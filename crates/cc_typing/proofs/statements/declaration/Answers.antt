@@ -1,7 +1,7 @@
 -- The names are checked one by one.
 use Rattle.std.proofs.Common.{subst}
 use Rattle.cc_ast.specs.Erase.{declarator_tree, declarator_trees}
-use Rattle.cc_types.proofs.SameTypes.{drop-item}
+use Rattle.cc_types.proofs.Items.{drop-item}
 use Rattle.cc_typing.proofs.Walks.{Declaring, Declaring-next}
 use Rattle.cc_typing.proofs.statements.declaration.Goals as goal
 

@@ -2,7 +2,7 @@ use Rattle.std.proofs.Common.{◌+◌, [], drop, ap, ◌∙◌, subst}
 use Rattle.std.proofs.lemmas.List.{drop_all}
 use Rattle.cc_ast.specs.Erase.{external_trees, object_trees}
 use Rattle.cc_types.specs.Limits.{objects}
-use Rattle.cc_types.proofs.SameTypes.{drop-item}
+use Rattle.cc_types.proofs.Items.{drop-item}
 use Rattle.cc_rv32.specs.Machine.{globals_from}
 use Rattle.cc_emit.proofs.Addresses.{Listing, listing_some, objects_fit, bases_are}
 use Rattle.cc_emit.proofs.bases.Bases.new.Goals as goal

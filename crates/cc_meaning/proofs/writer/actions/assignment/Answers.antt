@@ -4,7 +4,7 @@ use Rattle.cc_tokens.specs.declared.scalar.Scalar.{Scalar}
 use Rattle.cc_ast.specs.Erase.{expression_tree, target_tree}
 use Rattle.cc_meaning.specs.internal.Emitted.{write_of}
 use Rattle.cc_types.specs.Operators.{applied_operator}
-use Rattle.cc_resolve.specs.Environment.{types_in}
+use Rattle.cc_layout.specs.Environment.{types_in}
 use Rattle.cc_meaning.specs.internal.Form.{applied, expression_code}
 use Rattle.cc_types.specs.Types.{target_type, value_type}
 use Rattle.cc_meaning.specs.declared.form.Instruction.TheVariants.{Drop}

@@ -3,7 +3,7 @@ use Rattle.std.proofs.Common.{◌∙◌, length, reverse, drop, refl, sym, ap, s
 use Rattle.std.proofs.lemmas.Iterator.Adapters.{YieldsList-from_rev_slice}
 use Rattle.std.proofs.lemmas.Iterator.Consumers.{YieldsList-turn, YieldsList-end}
 use Rattle.std.proofs.lemmas.List.{drop_all, length_push}
-use Rattle.cc_types.proofs.SameTypes.{drop-item}
+use Rattle.cc_types.proofs.Items.{drop-item}
 use Rattle.cc_meaning.proofs.WritingStatements.{with_locals-reversed, declared_onto, declared-is, Undeclaring, Undeclaring-next}
 use Rattle.cc_meaning.proofs.writer.declarations.declaration.Goals as goal
 

@@ -1,7 +1,7 @@
 use Rattle.std.proofs.Common.{◌≡◌, length, drop, reverse}
 use Rattle.cc_ast.specs.Erase.{declarator_trees}
 use Rattle.cc_tokens.specs.declared.scalar.Scalar.{Scalar}
-use Rattle.cc_resolve.specs.Environment.{Environment, with_locals}
+use Rattle.cc_layout.specs.Environment.{Environment, with_locals}
 use Rattle.cc_meaning.proofs.WritingStatements.{Undeclaring}
 use Rattle.cc_meaning.proofs.writer.declarations.declaration.Given as goal
 

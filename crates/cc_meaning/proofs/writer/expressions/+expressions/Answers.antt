@@ -7,7 +7,7 @@ use Rattle.cc_ast.specs.internal.Arguments.{expressions_of}
 use Rattle.cc_ast.specs.Tree as tree
 use Rattle.cc_meaning.specs.internal.Emitted.{short_cut, operated}
 use Rattle.cc_types.specs.Operators.{working_type}
-use Rattle.cc_resolve.specs.Environment.{types_in}
+use Rattle.cc_layout.specs.Environment.{types_in}
 use Rattle.cc_resolve.specs.Operations.{operation}
 use Rattle.cc_meaning.specs.internal.Form.{expression_code}
 use Rattle.cc_types.specs.Types.{value_type}

@@ -6,10 +6,10 @@ use Rattle.std.proofs.lemmas.List.{drop_all, length_push}
 use Rattle.cc_ast.specs.Erase.{expression_tree, optional_tree, optional_action, beginning_tree, statement_tree, statements_of}
 use Rattle.cc_ast.specs.Tree.{Block, While, DoWhile, For}
 use Rattle.cc_meaning.specs.internal.Writing.{exits_of}
-use Rattle.cc_resolve.specs.Environment.{inner}
+use Rattle.cc_layout.specs.Environment.{inner}
 use Rattle.cc_meaning.specs.internal.Form.{statement_code, statements_code}
 use Rattle.cc_meaning.specs.declared.form.Instruction.TheVariants.{Repeat}
-use Rattle.cc_types.proofs.SameTypes.{drop-item}
+use Rattle.cc_types.proofs.Items.{drop-item}
 use Rattle.cc_types.proofs.Trees.{statement_tree-block, statement_tree-while, statement_tree-do_while, statement_tree-for}
 use Rattle.cc_types.proofs.Success.{on_ok}
 use Rattle.cc_meaning.proofs.WritingStatements.{behind_all, behind_all-reversed, written_onto, written-is, Writing, Writing-next, statement-is, exits-of-body, turns-are}

@@ -1,6 +1,6 @@
 -- After a function the scope is file scope again.
 use Rattle.cc_ast.specs.Erase.{signature_tree}
-use Rattle.cc_types.specs.Bindings.{file_of}
+use Rattle.cc_scope.specs.Bindings.{file_of}
 use Rattle.cc_types.proofs.Success.{on_ok}
 use Rattle.cc_meaning.proofs.WritingUnits.{function-names}
 use Rattle.cc_meaning.proofs.writer.units.define_function.Goals as goal

@@ -2,9 +2,9 @@
 use Rattle.std.proofs.Common.{refl, subst, ap, arith}
 use Rattle.std.proofs.lemmas.List.{drop_all}
 use Rattle.cc_ast.specs.Erase.{external_tree, external_trees}
-use Rattle.cc_resolve.specs.Layout.{layout_of}
+use Rattle.cc_layout.specs.Layout.{layout_of}
 use Rattle.cc_meaning.specs.internal.Form.{unit_functions}
-use Rattle.cc_types.proofs.SameTypes.{drop-item}
+use Rattle.cc_types.proofs.Items.{drop-item}
 use Rattle.cc_meaning.proofs.WritingUnits.{Resolving, Resolving-first, Resolving-next, Resolving-last}
 use Rattle.cc_meaning.proofs.writer.units.resolve_externals.Goals as goal
 

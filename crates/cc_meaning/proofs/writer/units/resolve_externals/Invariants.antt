@@ -1,6 +1,6 @@
 use Rattle.std.proofs.Common.{drop}
 use Rattle.cc_ast.specs.Erase.{external_trees}
-use Rattle.cc_resolve.specs.Layout.{layout_of}
+use Rattle.cc_layout.specs.Layout.{layout_of}
 use Rattle.cc_meaning.specs.internal.Form.{unit_functions}
 use Rattle.cc_meaning.proofs.WritingUnits.{Resolving}
 use Rattle.cc_meaning.proofs.writer.units.resolve_externals.Given as goal

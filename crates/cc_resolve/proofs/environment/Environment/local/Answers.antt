@@ -1,6 +1,6 @@
 -- The numbers of the locals depend only on their names.
 use Rattle.std.proofs.Common.{◌∙◌, ap}
-use Rattle.cc_resolve.specs.Environment.{Environment, number_in}
+use Rattle.cc_layout.specs.Environment.{Environment, number_in}
 use Rattle.cc_resolve.proofs.Numbers.{number_in-names}
 use Rattle.cc_resolve.proofs.environment.Environment.local.Goals as goal
 

@@ -1,7 +1,7 @@
 -- One more object is added, with its name and the place of its words.
 use Rattle.std.proofs.Common.{◌∙◌, [], ◌∷◌, ◌++◌, ap, sym}
 use Rattle.cc_resolve.specs.Numberings.{laid_objects}
-use Rattle.cc_resolve.specs.Layout.{Layout}
+use Rattle.cc_layout.specs.Layout.{Layout}
 use Rattle.cc_resolve.proofs.Numbers.{laid_objects-push, when_ok}
 use Rattle.cc_resolve.proofs.layout.Layout.add_object.Goals as goal
 

@@ -1,7 +1,7 @@
 -- The extent is that of the first object with this name.
 use Rattle.std.proofs.Common.{◌≡◌, ◌<◌, ◌∙◌, length, vec_len, Some, None, ap, arith}
 use Rattle.std.proofs.lemmas.List.{get_or_default}
-use Rattle.cc_resolve.specs.Layout.{Layout, extent_of}
+use Rattle.cc_layout.specs.Layout.{Layout, extent_of}
 use Rattle.cc_resolve.proofs.Numbers.{extent_of-is, extent-inside}
 use Rattle.cc_resolve.proofs.layout.Layout.extent.Goals as goal
 

@@ -1,6 +1,6 @@
 -- The result is the name's first place, or how many functions there are if no function has the name.
 use Rattle.std.proofs.Common.{◌∙◌, Some, None, ap}
-use Rattle.cc_resolve.specs.Layout.{Layout, names_before}
+use Rattle.cc_layout.specs.Layout.{Layout, names_before}
 use Rattle.cc_resolve.proofs.Numbers.{names_before-is}
 use Rattle.cc_resolve.proofs.layout.Layout.function.Goals as goal
 

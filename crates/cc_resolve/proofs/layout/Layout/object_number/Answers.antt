@@ -1,6 +1,6 @@
 -- The number of an object depends only on the names.
 use Rattle.std.proofs.Common.{◌∙◌, ap}
-use Rattle.cc_resolve.specs.Layout.{Layout, object_number}
+use Rattle.cc_layout.specs.Layout.{Layout, object_number}
 use Rattle.cc_resolve.proofs.Numbers.{object_number-is}
 use Rattle.cc_resolve.proofs.layout.Layout.object_number.Goals as goal
 

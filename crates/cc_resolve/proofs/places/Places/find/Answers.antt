@@ -1,7 +1,7 @@
 -- The table has the name's first place at the name's number.
 use Rattle.std.proofs.Common.{◌∙◌, ap, nat_eq}
 use Rattle.indexmap.specs.IndexMap.{get}
-use Rattle.cc_types.specs.Numberings.{at_number}
+use Rattle.cc_scope.specs.Numberings.{at_number}
 use Rattle.cc_resolve.specs.Numberings.{first_of}
 use Rattle.cc_resolve.proofs.places.Places.find.Goals as goal
 

@@ -2,7 +2,7 @@
 use Rattle.std.proofs.Common.{◌∙◌, ◌++◌, ◌∷◌, [], length, ap, subst, sym, nat_eq}
 use Rattle.std.specs.Map.{lookup}
 use Rattle.indexmap.specs.IndexMap.{get}
-use Rattle.cc_types.proofs.NameNumbers.{number-own}
+use Rattle.cc_scope.proofs.NameNumbers.{number-own}
 use Rattle.cc_resolve.specs.Numberings.{ArePlaces}
 use Rattle.cc_resolve.proofs.Numbers.{ArePlaces-numbered, ArePlaces-again, ArePlaces-new}
 use Rattle.cc_resolve.proofs.places.Places.push.Goals as goal

@@ -3,11 +3,11 @@ use Rattle.std.proofs.Common.{◌≡◌, ◌∙◌, ◌+◌, ◌≤◌, IfOk, On
 use Rattle.std.proofs.lemmas.Iterator.Adapters.{YieldsList-from_rev_slice}
 use Rattle.std.proofs.lemmas.Iterator.Consumers.{YieldsList-turn, YieldsList-end}
 use Rattle.std.proofs.lemmas.List.{drop_all, length_push}
-use Rattle.cc_cminor.specs.Numbers.{StatementFits}
-use Rattle.cc_cminor.specs.Code.{statement_of, in_sequence}
-use Rattle.cc_cminor.specs.internal.Statements.{statements_of}
-use Rattle.cc_cminor.proofs.code.Statement.TheLaws.{the_size}
-use Rattle.cc_cminor.specs.declared.code.Statement as written
+use Rattle.cc_cminor_language.specs.Numbers.{StatementFits}
+use Rattle.cc_cminor_language.specs.Code.{statement_of, in_sequence}
+use Rattle.cc_cminor_language.specs.Statements.{statements_of}
+use Rattle.cc_cminor_language.proofs.code.Statement.TheLaws.{the_size}
+use Rattle.cc_cminor_language.specs.declared.code.Statement as written
 use Rattle.cc_rtl_language.specs.Rtl.{most_nodes}
 use Rattle.cc_rtl.specs.Size.{statement_nodes}
 use Rattle.cc_rtl.specs.internal.Generate.{made}

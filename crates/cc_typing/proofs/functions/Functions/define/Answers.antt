@@ -3,7 +3,7 @@ use Rattle.std.proofs.Common.{◌∙◌, ◌++◌, ◌∷◌, [], List, ℕ, tru
 use Rattle.indexmap.specs.IndexMap.{get}
 use Rattle.cc_typing.specs.declared.functions.State.{State}
 use Rattle.cc_typing.specs.internal.Functions.{AreStates, newest_first, stands_before}
-use Rattle.cc_types.proofs.NameNumbers.{number-own}
+use Rattle.cc_scope.proofs.NameNumbers.{number-own}
 use Rattle.cc_typing.proofs.States.{AreStates-numbered, AreStates-defined, newest_first-push}
 use Rattle.cc_typing.proofs.functions.Functions.define.Goals as goal
 

@@ -3,7 +3,7 @@ use Rattle.std.proofs.Common.{◌∙◌, ◌++◌, ◌∷◌, [], List, ℕ, tru
 use Rattle.indexmap.specs.IndexMap.{get}
 use Rattle.cc_typing.specs.declared.functions.State.{State}
 use Rattle.cc_typing.specs.internal.Functions.{AreStates, newest_first, is_defined}
-use Rattle.cc_types.proofs.NameNumbers.{number-own}
+use Rattle.cc_scope.proofs.NameNumbers.{number-own}
 use Rattle.cc_typing.proofs.States.{AreStates-numbered, AreStates-before, newest_first-push}
 use Rattle.cc_typing.proofs.functions.Functions.mark_before.Goals as goal
 

@@ -1,8 +1,0 @@
--- The map has the number of each name.
-use Rattle.std.proofs.Common.{◌∙◌, ap}
-use Rattle.cc_types.specs.Numberings.{number_of_name}
-use Rattle.cc_types.proofs.NameNumbers.{get-numbered}
-use Rattle.cc_types.proofs.numbering.Numbering.find.Goals as goal
-
-pub returns : goal.returns
-returns c = c.copied.ensures ∙ c.get.ensures.value ∙ get-numbered c.self.inside.numbers c.args.name ∙ ap (λ v. number_of_name v c.args.name.now) c.self.view_is
