@@ -18,6 +18,7 @@ import lists  # noqa: E402
 import map as drawn  # noqa: E402
 import pictures  # noqa: E402
 import rooms  # noqa: E402
+import tour as walked  # noqa: E402
 import trace  # noqa: E402
 import wording  # noqa: E402
 
@@ -32,6 +33,7 @@ RULES = {
         rooms.repetitions,
         rooms.documents,
         drawn.drawn_map,
+        walked.tour,
         lists.help_texts,
         lists.version,
         lists.programs,
@@ -100,6 +102,12 @@ def plants():
         ("drawn_map", changed("docs/ARCHITECTURE.md", ("| 1 | `cc_words` |", "| 2 | `cc_words` |")), "cc_words: layer and arrows"),
         ("drawn_map", changed("docs/ARCHITECTURE.md", ("| 1 | `cc_words` |", "| 1 | `cc_planted` |")), "cc_planted is no crate"),
         ("drawn_map", changed("crates/cc_link/src/lib.rt", more=arrows), "cc_link: more than 8 arrows"),
+        ("tour", changed("docs/ARCHITECTURE.md", ("| `Log::append` |", "| `Log::planted` |")), "`Log::planted` is not in cc_journal/src/log.rt"),
+        ("tour", changed("docs/ARCHITECTURE.md", ("| `perform` reads", "| `planted` reads")), "`planted` is not in cc_tasks/src/work.rt"),
+        ("tour", changed("docs/ARCHITECTURE.md", ("`serve_quietly` (`serving.rt`)", "`serve_quietly` (`attending.rt`)")), "is not in cc_session/src/attending.rt"),
+        ("tour", changed("docs/ARCHITECTURE.md", ("calls `Service::over`", "calls `Service::planted`")), "is not in cc_session/src/running.rt"),
+        ("tour", changed("docs/ARCHITECTURE.md", ("(`cc_script/src/command.rt`)", "(`cc_script/src/planted.rt`)")), "cc_script/src/planted.rt is not there"),
+        ("tour", changed("crates/cc_session/src/telling.rt", ("fn tell_change", "fn planted")), "`tell_change` is not in cc_session/src/telling.rt"),
         ("version", {"VERSION": "9.9.9\n"}, "VERSION and commands.rt"),
         ("help_texts", changed("docs/help.txt", ("\n\n", "\n\nplanted\n\n")), "./cclib --help"),
         ("help_texts", changed("cclib", ('echo "cclib $(cat', 'echo "cclib 9$(cat')), "./cclib --version"),
