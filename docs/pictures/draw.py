@@ -249,16 +249,18 @@ def commit():
     out = [words(30, 36, "A commit on the medium, and what a power cut leaves", "title")]
     out += [words(30, 58, "An append and a rewrite are the same four device calls. One byte decides, and no checksum is trusted.", "soft")]
     out += [words(x, 92, it, "head") for x, it in ((30, "device call"), (190, "append: after the last record"), (570, "rewrite: into the other area"), (920, "a power cut leaves"))]
-    y, tall = 108, 104
+    y, tall = 108, 108
     for at, name in enumerate(heads):
         out += [f'  <path d="M30 {y - 2} H1220" class="rule"/>', words(30, y + 24, name, "strong")]
         out += strip(190, y + 6, appends[at]) + strip(570, y + 6, rewrites[at])
         if at:
             for x, most, why in ((190, 50, reasons[at - 1][1]), (570, 46, reasons[at - 1][2])):
                 out += wrapped(x, y + 50, why.replace("`", ""), most, "soft")
-        out += wrapped(920, y + 24, leaves[at], 38, "strong" if at == 4 else "", 18)
+        left = wrapped(920, y + 24, leaves[at], 34 if at == 4 else 38, "strong" if at == 4 else "", 18)
+        out += left
         if at in EDITS:
-            out += [words(920, y + 66, "The proof refuses this wrong body:", "soft")] + wrapped(920, y + 82, EDITS[at], 44, "soft")
+            under = y + 28 + 18 * len(left)
+            out += [words(920, under, "The proof refuses this wrong body:", "soft"), words(920, under + 16, EDITS[at], "soft")]
         y += tall if at else 50
     out += [f'  <path d="M30 {y - 2} H1220" class="rule"/>']
     for x, style, text in ((30, "old", "settled before"), (190, "open", "unsettled: any bytes after a cut"), (450, "new", "settled by this commit"), (660, "free", "ignored")):
