@@ -12,7 +12,7 @@ pub(crate) const JSON: Word = Word(
 );
 
 pub(crate) const JSON_RULE: &str =
-    "--json goes with check, interpret, run, size, safe, call, diff, log, library, and submit except its lines `image` and `source`";
+    "--json goes with check, interpret, run, size, safe, image --size, call, diff, log, library, and submit except its lines `image` and `source`";
 
 // Whether the answer to a line of a script is a text as it was stored.
 fn asks_text(line: &str) -> bool {

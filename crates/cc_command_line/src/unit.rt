@@ -32,6 +32,9 @@ const BOTH_RULE: &str =
 const SIZE_BOTH_RULE: &str =
     "DISK and NAME go together; without both, the program comes on standard input: cclib size < FILE";
 
+const SIZE_RULE: &str =
+    "--size is for a program on standard input or in files; `cclib size DISK NAME` measures a unit";
+
 const CHECKED_RULE: &str =
     "--checked is for a program on standard input; the image of a unit is printed as it was stored";
 
@@ -39,6 +42,9 @@ const CHECKED_RULE: &str =
 const IMAGE_HELP: &str = "\
 Without further words the program comes on standard input:
   cclib image < examples/quotient.c
+
+With --size the lines of `cclib size` follow; objcopy and the loader of qemu ignore them:
+  cclib image --size < examples/quotient.c
 
 With DISK and NAME the image is that of a unit of a library, as it was stored:
   cclib image units.disk quotient
@@ -74,6 +80,11 @@ pub(crate) static IMAGE: Row = Row {
     about: "Compile the program and print its image as Intel HEX, or print that of a unit of a library",
     words: &[
         CHECKED,
+        Word(
+            "size",
+            Form::Flag,
+            "After the image, print how much memory this very image takes, as `size` does",
+        ),
         ANY_DISK,
         ANY_NAME,
         Word(
@@ -142,7 +153,9 @@ fn wanted_of(
 fn broken_rule(given: &ArgMatches<'_>, is_earlier: bool) -> Option<&'static str> {
     let has_disk = given.get_str("DISK").is_some();
     let has_name = given.get_str("NAME").is_some();
-    if has_disk && kind_of(given) == Kind::Checked {
+    if has_disk && given.get_flag("size") {
+        Some(SIZE_RULE)
+    } else if has_disk && kind_of(given) == Kind::Checked {
         Some(CHECKED_RULE)
     } else if has_disk && !has_name || is_earlier && !has_disk {
         Some(BOTH_RULE)
@@ -160,7 +173,12 @@ pub(crate) fn image_of(alloc: Global, given: &ArgMatches<'_>) -> Result<Work, Re
         return Err(Refused::ByCommand(rule));
     }
     if given.get_str("DISK").is_none() {
-        return Ok(Work::One(Task::Image(kind_of(given))));
+        let kind = kind_of(given);
+        return Ok(Work::One(if given.get_flag("size") {
+            Task::SizedImage(kind)
+        } else {
+            Task::Image(kind)
+        }));
     }
     wanted_of(alloc, given, Part::Image, at)
 }

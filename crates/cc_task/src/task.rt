@@ -31,6 +31,8 @@ pub enum Task {
     Image(Kind),
     /// Compile the program and say how much memory its image takes.
     Size(Kind),
+    /// Compile the program, write its image as Intel HEX, and say how much memory that image takes.
+    SizedImage(Kind),
     /// Say whether the program can't go wrong.
     Safe,
 }

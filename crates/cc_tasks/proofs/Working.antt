@@ -58,6 +58,7 @@ lacks_memory (asked.RunCounted kind steps words) text = tt
 lacks_memory (asked.Asm kind) text = tt
 lacks_memory (asked.Image kind) text = tt
 lacks_memory (asked.Size kind) text = tt
+lacks_memory (asked.SizedImage kind) text = tt
 lacks_memory asked.Safe text = tt
 
 -- if a text could not be read, and the fault's line was written, no task has an answer

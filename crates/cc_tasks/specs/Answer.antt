@@ -21,9 +21,9 @@ use Rattle.cc_steps.specs.Count.{IsStepCount}
 use Rattle.cc_task.specs.declared.task.Kind.{Kind}
 use Rattle.cc_task.specs.declared.task.Kind.TheVariants.{Plain, Checked}
 use Rattle.cc_task.specs.declared.task.Task.{Task}
-use Rattle.cc_task.specs.declared.task.Task.TheVariants.{Check, Interpret, Run, InterpretCounted, RunCounted, Asm, Image as ImageTask, Size, Safe}
+use Rattle.cc_task.specs.declared.task.Task.TheVariants.{Check, Interpret, Run, InterpretCounted, RunCounted, Asm, Image as ImageTask, Size, SizedImage as SizedImageTask, Safe}
 use Rattle.cc_tasks.specs.declared.answer.Answer.{Answer}
-use Rattle.cc_tasks.specs.declared.answer.Answer.TheVariants.{Accepted, Ran, Executed, RanCounted, ExecutedCounted, Listed, Image as InHex, Sized as Measured, Judged}
+use Rattle.cc_tasks.specs.declared.answer.Answer.TheVariants.{Accepted, Ran, Executed, RanCounted, ExecutedCounted, Listed, Image as InHex, Sized as Measured, SizedImage, Judged}
 use Rattle.cc_tasks.specs.declared.fault.Fault.{Fault}
 use Rattle.cc_tasks.specs.declared.fault.Fault.TheVariants.{Text, Meaning, Piece, Link, UnknownFunction, OutOfMemory, Read, Write}
 
@@ -86,6 +86,12 @@ abbrev pub IsMeasured : Mode → (text : List ℕ) → Answer → Type 0
 IsMeasured m text (Measured it) = Measures m text it
 IsMeasured m text answer = ⊥
 
+-- what `image --size` answers: an image of the text in the mode, as Intel HEX, and how much memory this very image takes
+abbrev pub IsSizedImage : Mode → (text : List ℕ) → Answer → Type 0
+IsSizedImage m text (SizedImage lines it) =
+    Measures m text it × Agree text it.sized.made.unit.image × IsHex lines.items it.sized.made.unit.image
+IsSizedImage m text answer = ⊥
+
 -- what `safe` answers: what may go wrong; if that is nothing, the program never goes wrong, whatever the input and the bound
 abbrev pub IsJudged : (text : List ℕ) → Answer → Type 0
 IsJudged text (Judged lines) = (p : ProgramOf text) × (lines.items ≡ [] → IsSafe p.program)
@@ -101,6 +107,7 @@ Answers (RunCounted kind steps words) text answer = IsExecutedCounted (mode_of k
 Answers (Asm kind) text answer = IsListed (mode_of kind) text answer
 Answers (ImageTask kind) text answer = IsImage (mode_of kind) text answer
 Answers (Size kind) text answer = IsMeasured (mode_of kind) text answer
+Answers (SizedImageTask kind) text answer = IsSizedImage (mode_of kind) text answer
 Answers Safe text answer = IsJudged text answer
 
 -- why a text gets no answer from a task that makes no image: the text is not a program, or memory was refused
@@ -135,4 +142,5 @@ IsRefused (RunCounted kind steps words) text fault = HasNoImage (mode_of kind) t
 IsRefused (Asm kind) text fault = HasNoImage (mode_of kind) text fault
 IsRefused (ImageTask kind) text fault = HasNoImage (mode_of kind) text fault
 IsRefused (Size kind) text fault = HasNoImage (mode_of kind) text fault
+IsRefused (SizedImageTask kind) text fault = HasNoImage (mode_of kind) text fault
 IsRefused Safe text fault = HasNoProgram text fault

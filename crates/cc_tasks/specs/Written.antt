@@ -19,7 +19,7 @@ use Rattle.cc_tasks.specs.Answer.{Answers, IsRefused}
 use Rattle.cc_tasks.specs.Fault.{fault_number}
 use Rattle.cc_tasks.specs.Part.{part_fault_number}
 use Rattle.cc_tasks.specs.declared.answer.Answer.{Answer}
-use Rattle.cc_tasks.specs.declared.answer.Answer.TheVariants.{Accepted, Ran, Executed, RanCounted, ExecutedCounted, Listed, Image, Sized, Judged}
+use Rattle.cc_tasks.specs.declared.answer.Answer.TheVariants.{Accepted, Ran, Executed, RanCounted, ExecutedCounted, Listed, Image, Sized, SizedImage, Judged}
 use Rattle.cc_tasks.specs.declared.fault.Fault.{Fault}
 use Rattle.cc_tasks.specs.declared.part.PartFault.{PartFault}
 use Rattle.cc_tasks.specs.declared.fault.Fault.TheVariants.{Text, Meaning, Piece, Link, UnknownFunction, OutOfMemory, Read, Write}
@@ -52,6 +52,7 @@ answer_text (ExecutedCounted run) = counted_text run
 answer_text (Listed lines) = lines.items
 answer_text (Image lines) = lines.items
 answer_text (Sized it) = measure_text it
+answer_text (SizedImage lines it) = lines.items ++ measure_text it
 answer_text (Judged lines) = judged_text lines.items
 
 -- the status of an answer: 1 if something may go wrong

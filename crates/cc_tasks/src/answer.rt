@@ -4,7 +4,8 @@ ghost use Rattle.std.specs.Prelude.{◌≡◌, ℕ, List, IfOk, IfErr};
 ghost use Rattle.cc_c_semantics.specs.declared.mode.Mode.{Mode};
 ghost use Rattle.cc_link.specs.Agree.{Agree, AgreeIn};
 ghost use Rattle.cc_link.specs.Compile.{IsBuildRefusalIn};
-ghost use Rattle.cc_tasks.specs.Answer.{IsAccepted, IsRan, IsExecuted, IsListed, IsImage, IsJudged, IsMeasured, Answers, HasNoImage, HasNoProgram, IsRefused, mode_of};
+ghost use Rattle.cc_findings.specs.Measured.{Measures};
+ghost use Rattle.cc_tasks.specs.Answer.{IsAccepted, IsRan, IsExecuted, IsListed, IsImage, IsJudged, IsMeasured, IsSizedImage, Answers, HasNoImage, HasNoProgram, IsRefused, mode_of};
 
 use super::counting::{executed_counted, ran_counted};
 use super::fault::Fault;
@@ -38,6 +39,8 @@ pub enum Answer {
     Image(Vec<u8>),
     /// How much memory the program's image takes.
     Sized(Measure),
+    /// The program's image as Intel HEX, and how much memory this image takes.
+    SizedImage(Vec<u8>, Measure),
     /// What may go wrong in the program, unless it is shown that nothing may.
     Judged(Vec<Unsure>),
 }
@@ -150,9 +153,9 @@ fn in_hex(alloc: Global, mode: Mode, text: &[u8]) -> Result<Answer, Fault>
     }
 }
 
-// How much memory the program's image takes.
-fn sized(alloc: Global, mode: Mode, text: &[u8]) -> Result<Answer, Fault>
-    ensures answer { IfOk result (λ answer. IsMeasured mode text.now answer) }
+// The program's image with how much memory it takes.
+fn measure_of(alloc: Global, mode: Mode, text: &[u8]) -> Result<Measure, Fault>
+    ensures answer { IfOk result (λ it. Measures mode text.now it) }
     ensures refused { IfErr result (λ fault. HasNoImage mode text.now fault) }
 {
     let sized = match size_in(alloc, mode, text) {
@@ -160,7 +163,33 @@ fn sized(alloc: Global, mode: Mode, text: &[u8]) -> Result<Answer, Fault>
         Err(fault) => return Err(fault_of_build(fault)),
     };
     match measured(alloc, sized) {
+        Ok(measure) => Ok(measure),
+        Err(_) => Err(Fault::OutOfMemory),
+    }
+}
+
+// How much memory the program's image takes.
+fn sized(alloc: Global, mode: Mode, text: &[u8]) -> Result<Answer, Fault>
+    ensures answer { IfOk result (λ answer. IsMeasured mode text.now answer) }
+    ensures refused { IfErr result (λ fault. HasNoImage mode text.now fault) }
+{
+    match measure_of(alloc, mode, text) {
         Ok(measure) => Ok(Answer::Sized(measure)),
+        Err(fault) => Err(fault),
+    }
+}
+
+// The program's image as Intel HEX, and how much memory this image takes. The program is compiled once.
+fn sized_image(alloc: Global, mode: Mode, text: &[u8]) -> Result<Answer, Fault>
+    ensures answer { IfOk result (λ answer. IsSizedImage mode text.now answer) }
+    ensures refused { IfErr result (λ fault. HasNoImage mode text.now fault) }
+{
+    let measure = match measure_of(alloc, mode, text) {
+        Ok(measure) => measure,
+        Err(fault) => return Err(fault),
+    };
+    match write(alloc, &measure.sized.made.unit.stored().image) {
+        Ok(lines) => Ok(Answer::SizedImage(lines, measure)),
         Err(_) => Err(Fault::OutOfMemory),
     }
 }
@@ -181,7 +210,8 @@ fn judged(alloc: Global, text: &[u8]) -> Result<Answer, Fault>
 }
 
 /// The answer to a task for a text. For `check`, `interpret` and `safe` it comes from the text's tree; for `run`, `asm`, `image`
-/// and `size`, from an image that agrees with the text and follows what the program shows in the task's mode.
+/// and `size`, from an image that agrees with the text and follows what the program shows in the task's mode. `image --size`
+/// prints and measures one such image.
 ///
 /// Refusals: those of `typed_unit`; for `run`, `asm`, `image` and `size` then 22, 24 and 25, as for `compile_in`; 40 if memory
 /// was refused.
@@ -202,6 +232,7 @@ pub fn answer_for(alloc: Global, task: &Task, text: &[u8]) -> Result<Answer, Fau
         Task::Asm(kind) => listed(alloc, mode_of(*kind), text),
         Task::Image(kind) => in_hex(alloc, mode_of(*kind), text),
         Task::Size(kind) => sized(alloc, mode_of(*kind), text),
+        Task::SizedImage(kind) => sized_image(alloc, mode_of(*kind), text),
         Task::Safe => judged(alloc, text),
     }
 }

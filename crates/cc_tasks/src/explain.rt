@@ -131,6 +131,7 @@ const MOST_EXPLAINED: u64 = 100_000_000;
 fn stopping_cause(alloc: Global, text: &[u8], words: &[u32], steps: u64) -> Option<Cause> {
     let Ok(unit) = typed_unit(alloc, text) else {
         return None;
+        | Task::SizedImage(_)
     };
     match interpret(alloc, &unit, words, steps.min(MOST_EXPLAINED)) {
         Ok(outcome) => match outcome.stop {

@@ -1,9 +1,10 @@
 // Does a task over any reader and writer.
 
-ghost use Rattle.std.specs.Prelude.{◌≡◌, ◌≤◌, Bool, IfOk, IfErr, OnOk};
+ghost use Rattle.std.specs.Prelude.{◌≡◌, ◌≤◌, ◌++◌, Bool, IfOk, IfErr, OnOk};
 ghost use Rattle.std.specs.Io.KnownBytes.{Appends};
 ghost use Rattle.cc_task.specs.declared.task.Task.{Task};
 ghost use Rattle.cc_sources.specs.Reading.{IsTextOf};
+ghost use Rattle.cc_findings.specs.Written.{measure_text};
 ghost use Rattle.cc_tasks.specs.Written.{answer_status, answer_text, counted_outcome_text, outcome_text, steps_text, stop_text, IsPerformed, Writes};
 ghost use Rattle.cc_tasks.specs.internal.Working.{Flushes, HasNoAnswer, IsDoneFor, RefusesBy, TellsOf, is_told, matter_status, status_of, written_of};
 
@@ -14,7 +15,7 @@ use super::explain::{
 use super::fault::Fault;
 use super::source::read_source;
 use cc_answers::{ImageRun, write_run, write_words};
-use cc_findings::{cause_name, write_judged, write_measure};
+use cc_findings::{Measure, cause_name, write_judged, write_measure};
 use cc_meaning::{Outcome, Stop};
 use cc_rv32::outcome::MachineOutcome;
 use cc_sources::Origin;
@@ -57,6 +58,15 @@ fn write_counted_outcome<W: Write>(done: &CountedOutcome, writer: &mut W) -> io:
     write_steps(done.steps, writer)
 }
 
+// Writes an image as Intel HEX, and then how much memory it takes.
+#[tactic(auto, using(cc_answers::proofs::Writing::written_on))]
+fn write_sized_image<W: Write>(lines: &[u8], measure: &Measure, writer: &mut W) -> io::Result<()>
+    ensures { OnOk result (Appends (W.contents writer.old) (W.contents writer.new) (lines.now ++ measure_text measure.now)) }
+{
+    writer.write_all(lines)?;
+    write_measure(measure, writer)
+}
+
 /// Writes an answer: the lines that `perform` writes for it.
 pub fn write_answer<W: Write>(answer: &Answer, writer: &mut W) -> io::Result<()>
     ensures { OnOk result (Appends (W.contents writer.old) (W.contents writer.new) (answer_text answer.now)) }
@@ -70,6 +80,7 @@ pub fn write_answer<W: Write>(answer: &Answer, writer: &mut W) -> io::Result<()>
         Answer::Listed(lines) => writer.write_all(lines.as_slice()),
         Answer::Image(lines) => writer.write_all(lines.as_slice()),
         Answer::Sized(it) => write_measure(it, writer),
+        Answer::SizedImage(lines, it) => write_sized_image(lines.as_slice(), it, writer),
         Answer::Judged(lines) => write_judged(lines.as_slice(), writer),
     }
 }
@@ -121,6 +132,7 @@ fn matter_of(answer: &Answer) -> Matter
         | Answer::Listed(_)
         | Answer::Image(_)
         | Answer::Sized(_)
+        | Answer::SizedImage(_, _)
         | Answer::Judged(_) => Matter::Text,
     }
 }

@@ -18,7 +18,7 @@ type Asked = (
     &'static [u32],
 );
 
-static TASKS: [Asked; 17] = [
+static TASKS: [Asked; 19] = [
     (&["cclib", "check"], "check", Kind::Plain, false, 0, &[]),
     (
         &["cclib", "interpret", "1000"],
@@ -120,6 +120,22 @@ static TASKS: [Asked; 17] = [
         0,
         &[],
     ),
+    (
+        &["cclib", "image", "--size"],
+        "image --size",
+        Kind::Plain,
+        false,
+        0,
+        &[],
+    ),
+    (
+        &["cclib", "image", "--checked", "--size"],
+        "image --size",
+        Kind::Checked,
+        false,
+        0,
+        &[],
+    ),
 ];
 
 // The last five parts of the row (`Asked`) for a task.
@@ -145,6 +161,7 @@ fn parts_of(task: &Task) -> (&'static str, Kind, bool, u64, &[u32]) {
         Task::Asm(kind) => ("asm", *kind, false, 0, &[]),
         Task::Image(kind) => ("image", *kind, false, 0, &[]),
         Task::Size(kind) => ("size", *kind, false, 0, &[]),
+        Task::SizedImage(kind) => ("image --size", *kind, false, 0, &[]),
         Task::Safe => ("safe", Kind::Plain, false, 0, &[]),
     }
 }
@@ -276,7 +293,7 @@ pub fn are_refused(alloc: Global, lists: &[&'static [&'static str]]) -> bool {
     right
 }
 
-static REFUSED: [&[&str]; 24] = [
+static REFUSED: [&[&str]; 25] = [
     &["cclib", "interpret", "1000000001"],
     &["cclib", "interpret", "+5"],
     &["cclib", "interpret", "-1"],
@@ -300,6 +317,7 @@ static REFUSED: [&[&str]; 24] = [
     &["cclib", "run", "--count", "1000000001"],
     &["cclib", "safe", "--checked"],
     &["cclib", "image", "units.disk", "a", "--checked"],
+    &["cclib", "image", "units.disk", "a", "--size"],
     &["cclib", "check", "--checked"],
 ];
 
@@ -344,7 +362,7 @@ fn quiet_words(rt: HostRuntime) -> Result<(), Fail> {
 }
 
 // Command lines, and a part of the text that is printed for each.
-static PRINTED: [(&[&str], &str); 12] = [
+static PRINTED: [(&[&str], &str); 13] = [
     (&["cclib", "interpret", "+5"], "Usage: cclib interpret"),
     (&["cclib", "run", "+5"], "Usage: cclib run"),
     (
@@ -367,6 +385,10 @@ static PRINTED: [(&[&str], &str); 12] = [
     ),
     (&["cclib", "library", "a", "--workers", "9"], "from 1 to 8"),
     (&["cclib", "image", "a.disk"], "DISK and NAME go together"),
+    (
+        &["cclib", "image", "--size", "a.disk", "a"],
+        "--size is for a program",
+    ),
     (&["cclib", "source", "a.disk"], "Usage: cclib source"),
     (&["cclib", "stages", "--help"], "cclib stages main <"),
 ];
