@@ -1,6 +1,6 @@
 // Running the image of a library's unit on input words.
 
-ghost use Rattle.std.specs.Prelude.{IfOk, IfErr, IsTrue};
+ghost use Rattle.std.specs.Prelude.{◌≡◌, IfOk, IfErr, IsTrue};
 ghost use Rattle.std.specs.Arc.{arc_value};
 ghost use Rattle.cc_disk.specs.Images.{OnlyReads};
 ghost use Rattle.cc_tasks.specs.Part.{IsFound, IsNoPartIn, IsNoPartOn};
@@ -46,6 +46,7 @@ pub fn unit_on<D: Disk + Drop, E: Write>(
 ) -> (Result<Arc<StoredUnit>, PartFault>, D)
     // On an honest disk this is the unit under the name in the map to which the disk recovers.
     ensures found { IfOk result.0 (λ unit. IsTrue D.honest → IsUnitOn (D.seen disk) name.now (arc_value unit)) }
+    ensures sound { IfOk result.0 (λ _. D.failures result.1 ≡ D.failures disk) }
     ensures refused { IfErr result.0 (λ fault. IsNoPartOn D.honest (D.seen disk) (D.failures disk) (D.failures result.1) name.now fault) }
     ensures reads { IsTrue D.honest → OnlyReads D.seen D.may_leave D.moment D.left_since disk result.1 }
 {

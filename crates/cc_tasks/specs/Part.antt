@@ -51,9 +51,10 @@ IsNoPartIn units name OutOfMemory = (unit : StoredUnit) × IsFound units name un
 abbrev pub IsPartOn : (seen name : List ℕ) → Part → (bytes : List ℕ) → Type 0
 IsPartOn seen name part bytes = (units : Units) × Recovers seen units × IsPartIn units name part bytes
 
--- why no part is taken out of a disk: as `OpenFaults` says, or as `IsNoPartIn` says of the map to which the disk recovers
+-- why no part is taken out of a disk: the library is not opened, as `OpenFaults` says; or it is, and no part is taken out of the map to
+-- which the disk recovers
 abbrev pub IsNoPartOn : (honest : Bool) (seen : List ℕ) (before after : ℕ) (name : List ℕ) → PartFault → Type 0
 IsNoPartOn honest seen before after name (Library f) = OpenFaults honest seen before after f
-IsNoPartOn honest seen before after name BadName = is_name name ≡ false
-IsNoPartOn honest seen before after name Absent = IsTrue honest → (units : Units) × Recovers seen units × IsAbsent units name
-IsNoPartOn honest seen before after name OutOfMemory = Unit {0}
+IsNoPartOn honest seen before after name BadName = (after ≡ before) × (is_name name ≡ false) × (IsTrue honest → (units : Units) × Recovers seen units)
+IsNoPartOn honest seen before after name Absent = (after ≡ before) × (IsTrue honest → (units : Units) × Recovers seen units × IsNoPartIn units name Absent)
+IsNoPartOn honest seen before after name OutOfMemory = after ≡ before

@@ -1,5 +1,5 @@
 -- The map that `unit_in` looks into is the one to which the disk recovers.
-use Rattle.std.proofs.Common.{IsTrue, sym, subst}
+use Rattle.std.proofs.Common.{◌≡◌, IsTrue, sym, subst}
 use Rattle.std.specs.Arc.{arc_value}
 use Rattle.cc_library.specs.Apply.{Units}
 use Rattle.cc_library.specs.Recovered.{Recovers}
@@ -19,4 +19,5 @@ returns-after-found-clause-refused g c =
     let D = g.D.Disk in
     let seen = D.seen c.args.disk in
     let recovers = λ (h : IsTrue D.honest). subst (λ (units : Units). Recovers seen units) (sym c.units.ensures) (c.in-Ok.ensures.recovered h) in
-    of_err (λ fault why. no_part_on D.honest seen _ _ c.args.name.now c.units.result.now recovers fault why) c.unit_in-found.result c.unit_in-found.ensures.refused
+    let same : D.failures c.into_disk.result ≡ D.failures c.args.disk = subst (λ (d : g.row.D.Denot). D.failures d ≡ D.failures c.args.disk) (sym c.into_disk.ensures) c.in-Ok.ensures.sound in
+    of_err (λ fault why. no_part_on D.honest seen _ _ c.args.name.now c.units.result.now same recovers fault why) c.unit_in-found.result c.unit_in-found.ensures.refused
