@@ -71,6 +71,14 @@ enum End<'a> {
     Wrong(&'a [u8]),
 }
 
+/// Why a program goes wrong, as `interpret` prints it.
+static CAUSES: [&str; 4] = ["Division", "Shift", "Index", "Depth"];
+
+// Whether this is the name of a cause.
+fn is_cause(name: &[u8]) -> bool {
+    CAUSES.iter().any(|cause| cause.as_bytes() == name)
+}
+
 // The end that a line names; `None` if the line says something else.
 fn end_in(line: &[u8]) -> Option<End<'_>> {
     if line == b"going".as_slice() {
@@ -79,7 +87,9 @@ fn end_in(line: &[u8]) -> Option<End<'_>> {
     if line == b"trapped".as_slice() {
         return Some(End::Bare("trapped"));
     }
-    if let Some(why) = after(line, "wrong") {
+    if let Some(why) = after(line, "wrong")
+        && is_cause(why)
+    {
         return Some(End::Wrong(why));
     }
     if let Some(word) = after(line, "exited").and_then(signed) {
@@ -158,7 +168,8 @@ fn fault_in(line: &[u8]) -> Option<(u64, &[u8])> {
     Some((unsigned(digits)?, rest))
 }
 
-/// The object for a line of an answer.
+/// The object for a line of an answer. The lines of `size` begin with any name that a function may have, so a word alone does not
+/// show what a line says: what comes after it has to fit too.
 pub(crate) fn object_of_line(alloc: Global, line: &[u8]) -> Result<LineObject, AllocError> {
     if line == b"ok".as_slice() {
         return Ok(other(Object::new(alloc, "ok")?));
@@ -166,7 +177,9 @@ pub(crate) fn object_of_line(alloc: Global, line: &[u8]) -> Result<LineObject, A
     if let Some(number) = after(line, "ok").and_then(unsigned) {
         return receipt(alloc, number);
     }
-    if let Some(name) = after(line, "unit") {
+    if let Some(name) = after(line, "unit")
+        && !name.contains(&b' ')
+    {
         return unit(alloc, name);
     }
     if let Some(value) = signed(line) {

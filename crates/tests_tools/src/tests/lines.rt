@@ -5,7 +5,7 @@ use std::alloc::Global;
 use std::io::{self, Write};
 
 // Lines of answers, and the object of each.
-static ANSWERS: [(&[u8], &str); 14] = [
+static ANSWERS: [(&[u8], &str); 17] = [
     (b"ok", "{\"cclib\":1,\"kind\":\"ok\"}"),
     (b"ok 12", "{\"cclib\":1,\"kind\":\"receipt\",\"number\":12}"),
     (
@@ -46,6 +46,18 @@ static ANSWERS: [(&[u8], &str); 14] = [
         "{\"cclib\":1,\"function\":\"main\",\"kind\":\"fault\",\"name\":\"FunctionTooLarge\",\"number\":22}",
     ),
     (
+    (
+        b"unit 0001000c 4 words frame 0 calls 1",
+        "{\"cclib\":1,\"kind\":\"line\",\"text\":\"unit 0001000c 4 words frame 0 calls 1\"}",
+    ),
+    (
+        b"wrong 0001000c 4 words frame 0 calls 1",
+        "{\"cclib\":1,\"kind\":\"line\",\"text\":\"wrong 0001000c 4 words frame 0 calls 1\"}",
+    ),
+    (
+        b"wrong way",
+        "{\"cclib\":1,\"kind\":\"line\",\"text\":\"wrong way\"}",
+    ),
         b"audit a confirmed",
         "{\"cclib\":1,\"kind\":\"line\",\"text\":\"audit a confirmed\"}",
     ),
@@ -57,7 +69,7 @@ static ANSWERS: [(&[u8], &str); 14] = [
 
 // Lines of explanations, and the object of each; nothing for a line that shows the text, or that the object of a fault already
 // has.
-static TOLD: [(&[u8], &str); 5] = [
+static TOLD: [(&[u8], &str); 8] = [
     (
         b"-:4:2: 'totl' is not declared: did you mean 'total'?",
         "{\"cclib\":1,\"column\":2,\"file\":\"-\",\"help\":\"did you mean 'total'?\",\"kind\":\"further\",\"line\":4,\"message\":\"'totl' is not declared\"}\n",
