@@ -25,6 +25,7 @@ fn nothing(alloc: Global) -> Explanation {
     Explanation {
         words: None,
         first: None,
+        halt: None,
         calls: Vec::new(alloc),
         further: Vec::new(alloc),
         warnings: Vec::new(alloc),
@@ -162,8 +163,8 @@ fn try_perform<W: Write>(
     }
 }
 
-// The status, which is 1 if writing failed. If there was no memory for an object, `NO_MEMORY` is written in its place.
-fn status_of<W: Write>(written: io::Result<u8>, writer: &mut W) -> u8
+/// The status, which is 1 if writing failed. If there was no memory for an object, `NO_MEMORY` is written in its place.
+pub(crate) fn status_of<W: Write>(written: io::Result<u8>, writer: &mut W) -> u8
     requires { IfOk written (λ status. status ≤ 1) }
     ensures { result ≤ 1 }
 {

@@ -3,7 +3,7 @@
 use super::object::Object;
 use cc_diagnostic::{Diagnostic, Related};
 use cc_sources::{NamedText, named_message, place_in};
-use cc_tasks::Explanation;
+use cc_tasks::{Explanation, Halt};
 use serde_json::Value;
 use std::alloc::{AllocError, Global};
 
@@ -86,10 +86,8 @@ pub(crate) fn add_explanation(
     explanation: &Explanation,
 ) -> Result<(), AllocError> {
     match (&explanation.first, explanation.words) {
-        (Some(first), words) => {
-            if words.is_some() {
-                object.truth("stopped")?;
-            }
+        (Some(first), _) => {
+            add_halt(object, explanation.halt)?;
             let calls = explanation.calls.as_slice();
             add_told(alloc, object, texts, first, calls)
         }
@@ -97,3 +95,12 @@ pub(crate) fn add_explanation(
         (None, None) => Ok(()),
     }
 }
+// Adds whether a checked image has stopped, or how many more words it writes before it stops.
+fn add_halt(object: &mut Object, halt: Option<Halt>) -> Result<(), AllocError> {
+    match halt {
+        Some(Halt::Reached) => object.truth("stopped"),
+        Some(Halt::Ahead(more)) => object.count("more", more as u64),
+        None => Ok(()),
+    }
+}
+

@@ -18,10 +18,19 @@ pub(crate) enum Matter {
     Text,
     /// Why the program went wrong.
     Wrong(Cause),
-    /// Whether an image whose run goes on has stopped in place.
-    Going,
+    /// Whether an image whose run goes on, and has written this many words, has stopped in place.
+    Going(usize),
     /// Nothing; the program may go wrong.
     Unsure,
+}
+
+/// How a checked image stops whose run goes on, if its program goes wrong.
+#[derive(Clone, Copy, Debug, Drop, PartialEq, Eq)]
+pub enum Halt {
+    /// It has written all that it ever writes: a larger STEPS has the same answer.
+    Reached,
+    /// With a larger STEPS it writes this many more words, and then stops in place.
+    Ahead(usize),
 }
 
 /// The explanation of the answer to a text.
@@ -31,6 +40,8 @@ pub struct Explanation {
     pub words: Option<&'static str>,
     /// The explanation of the fault, or of what went wrong in a run.
     pub first: Option<Diagnostic>,
+    /// If `first` says why a checked image stops in place: whether it has stopped.
+    pub halt: Option<Halt>,
     /// The calls that were open as a run went wrong, the innermost first.
     pub calls: Vec<Diagnostic>,
     /// Errors that would be reported if the fault were mended; with the fault, at most twenty.
@@ -45,6 +56,7 @@ impl Explanation {
         Explanation {
             words,
             first: None,
+            halt: None,
             calls: Vec::new(alloc),
             further: Vec::new(alloc),
             warnings: Vec::new(alloc),
@@ -119,6 +131,7 @@ pub fn explanation_of_wrong(alloc: Global, task: &Task, text: &[u8], cause: Caus
         | Task::Asm(_)
         | Task::Image(_)
         | Task::Size(_)
+        | Task::SizedImage(_)
         | Task::Safe => Explanation::words(alloc, None),
     }
 }
@@ -126,38 +139,54 @@ pub fn explanation_of_wrong(alloc: Global, task: &Task, text: &[u8], cause: Caus
 /// At most this many steps of the program are interpreted to find where its image has stopped.
 const MOST_EXPLAINED: u64 = 100_000_000;
 
-// Why a program goes wrong on the input words within the steps. `None` if it does not, or if the cause is too many open calls: no
-// image stops for that.
-fn stopping_cause(alloc: Global, text: &[u8], words: &[u32], steps: u64) -> Option<Cause> {
-    let Ok(unit) = typed_unit(alloc, text) else {
-        return None;
-        | Task::SizedImage(_)
-    };
-    match interpret(alloc, &unit, words, steps.min(MOST_EXPLAINED)) {
-        Ok(outcome) => match outcome.stop {
-            Stop::Wrong(cause) if cause != Cause::Depth => Some(cause),
-            _ => None,
-        },
-        Err(_) => None,
-    }
+// Why a checked image stops in place, and whether it has.
+#[derive(Clone, Copy)]
+struct Stopping {
+    cause: Cause,
+    halt: Halt,
 }
 
-/// The explanation for an image's run that ends as `going`. If the image is checked, and the program goes wrong within the same
-/// number of steps (at most 100,000,000), it is the place at which the image has stopped; otherwise it is the warnings of the
-/// text. The program is interpreted to find that out.
-pub fn explanation_of_going(alloc: Global, task: &Task, text: &[u8]) -> Explanation {
+// Why a program goes wrong on the input words within the steps, and whether its image, which has written `written` words, has
+// stopped. It has if the program writes no more words: a step is several instructions, so the image may still have far
+// to go. `None` if the program does not go wrong, or if the cause is too many open calls: no image stops for that.
+fn stopping_of(
+    alloc: Global,
+    text: &[u8],
+    words: &[u32],
+    steps: u64,
+    written: usize,
+) -> Option<Stopping> {
+    let unit = typed_unit(alloc, text).ok()?;
+    let outcome = interpret(alloc, &unit, words, steps.min(MOST_EXPLAINED)).ok()?;
+    let cause = match outcome.stop {
+        Stop::Wrong(cause) if cause != Cause::Depth => cause,
+        _ => return None,
+    };
+    let halt = match outcome.output.as_slice().len().checked_sub(written)? {
+        0 => Halt::Reached,
+        more => Halt::Ahead(more),
+    };
+    Some(Stopping { cause, halt })
+}
+
+// The explanation for an image's run that ends as `going` and has written `written` words. If the image is checked, and the
+// program goes wrong within the same number of steps (at most 100,000,000), it is the place at which the image stops, and
+// whether it has stopped; otherwise it is the warnings of the text. The program is interpreted to find that out.
+fn explanation_of_going(alloc: Global, task: &Task, text: &[u8], written: usize) -> Explanation {
     let (steps, words) = match task {
         Task::Run(Kind::Checked, steps, words) | Task::RunCounted(Kind::Checked, steps, words) => {
             (*steps, words.as_slice())
         }
         _ => return explanation_of_program(alloc, text),
     };
-    let Some(cause) = stopping_cause(alloc, text, words, steps) else {
+    let Some(Stopping { cause, halt }) = stopping_of(alloc, text, words, steps, written) else {
         return explanation_of_program(alloc, text);
     };
     let told = of_wrong_run(alloc, text, words, steps, cause);
     let mut explanation = Explanation::wrong(alloc, told);
-    explanation.words = Some("the image stops in place, since the program goes wrong:");
+    if explanation.first.is_some() {
+        explanation.halt = Some(halt);
+    }
     explanation
 }
 
@@ -171,7 +200,7 @@ pub(crate) fn explanation_of_matter(
     match matter {
         Matter::Text | Matter::Unsure => explanation_of_program(alloc, text),
         Matter::Wrong(cause) => explanation_of_wrong(alloc, task, text, cause),
-        Matter::Going => explanation_of_going(alloc, task, text),
+        Matter::Going(written) => explanation_of_going(alloc, task, text, written),
     }
 }
 
@@ -189,6 +218,24 @@ fn write_each<W: Write>(
     Ok(())
 }
 
+// Writes how a checked image stops; the place follows.
+fn write_halt<W: Write>(halt: Halt, writer: &mut W) -> io::Result<()> {
+    match halt {
+        Halt::Reached => writeln!(
+            writer,
+            "cclib: the image stops in place, since the program goes wrong:"
+        ),
+        Halt::Ahead(1) => writeln!(
+            writer,
+            "cclib: with a larger STEPS the image writes one more word and then stops in place, since the program goes wrong:"
+        ),
+        Halt::Ahead(more) => writeln!(
+            writer,
+            "cclib: with a larger STEPS the image writes {more} more words and then stops in place, since the program goes wrong:"
+        ),
+    }
+}
+
 /// Writes the explanation of a text that comes from `origin`.
 pub fn write_explanation<W: Write>(
     alloc: Global,
@@ -199,6 +246,9 @@ pub fn write_explanation<W: Write>(
 ) -> io::Result<()> {
     if let Some(words) = explanation.words {
         writeln!(writer, "cclib: {words}")?;
+    }
+    if let Some(halt) = explanation.halt {
+        write_halt(halt, writer)?;
     }
     if let Some(first) = &explanation.first {
         write_diagnostic(alloc, text, origin, first, writer)?;

@@ -21,7 +21,7 @@ mod work;
 
 pub use answer::{Answer, answer_for, mode_of};
 pub use explain::{
-    Explanation, explanation_of_fault, explanation_of_program, explanation_of_wrong,
+    Explanation, Halt, explanation_of_fault, explanation_of_program, explanation_of_wrong,
     write_explanation,
 };
 pub use fault::Fault;

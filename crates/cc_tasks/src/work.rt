@@ -113,7 +113,7 @@ fn matter_of_run(run: &ImageRun) -> Matter
     ensures { matter_status result ≡ 0 }
 {
     match run.outcome {
-        MachineOutcome::Going => Matter::Going,
+        MachineOutcome::Going => Matter::Going(run.output.len()),
         MachineOutcome::Exited(_) | MachineOutcome::Trapped => Matter::Text,
     }
 }
@@ -255,7 +255,7 @@ fn status_of_matter(matter: Matter) -> u8
     ensures bound { result ≤ 1 }
 {
     match matter {
-        Matter::Text | Matter::Wrong(_) | Matter::Going => 0,
+        Matter::Text | Matter::Wrong(_) | Matter::Going(_) => 0,
         Matter::Unsure => 1,
     }
 }
@@ -353,7 +353,7 @@ pub fn perform<H: AllocGlobal, R: Read, W: Write>(
 
 /// Does a task as `carry_out` does, and writes to `explanations` what helps a person with a fault or with a run that went wrong:
 /// the place, as editors read it, what was found there and what was expected, and the line of the text. It does the same for a
-/// checked image that has stopped in place; for another program it writes the warnings. If a write to `writer` fails,
+/// checked image that has stopped in place, or will at a larger bound; for another program it writes the warnings. If a write to `writer` fails,
 /// `explanations` says so. If memory for an explanation runs out, or the explanation cannot be written, it is left out; the
 /// status is the same.
 pub fn perform_and_explain<H: AllocGlobal, R: Read, W: Write, E: Write>(

@@ -143,14 +143,30 @@ fn programs(rt: HostRuntime) {
     }
 }
 
-// Programs, what a checked image of each writes within 1,000 instructions, and what is explained.
-static EXPLAINED: [(&str, &str, &str); 3] = [
+// Programs, what a checked image of each writes within 1,000 instructions, and what is explained. The loops take fewer than 1,000 steps,
+// and more than 1,000 instructions: at least two a turn.
+static EXPLAINED: [(&str, &str, &str); 6] = [
     ("int main(void){return 3;}", "exited 3\n", ""),
     ("int main(void){for(;;);}", "going\n", ""),
     (
         "int a[3],n=3;int main(void){write_word(a[2]);write_word(a[n]);}",
         "0\ngoing\n",
         "cclib: the image stops in place, since the program goes wrong:\n-:1:57: index 3 is outside a[3], in main\n    1 | int a[3],n=3;int main(void){write_word(a[2]);write_word(a[n]);}\n      |                                                         ^\n",
+    ),
+    (
+        "int z;int main(void){int i=600;for(;i;)i--;write_word(2);write_word(3);1/z;}",
+        "going\n",
+        "cclib: with a larger STEPS the image writes 2 more words and then stops in place, since the program goes wrong:\n-:1:73: division of 1 by 0, in main\n    1 | int z;int main(void){int i=600;for(;i;)i--;write_word(2);write_word(3);1/z;}\n      |                                                                         ^\n",
+    ),
+    (
+        "int z;int main(void){int i;for(i=0;i<600;i++);write_word(2);return 1/z;}",
+        "going\n",
+        "cclib: with a larger STEPS the image writes one more word and then stops in place, since the program goes wrong:\n-:1:69: division of 1 by 0, in main\n    1 | int z;int main(void){int i;for(i=0;i<600;i++);write_word(2);return 1/z;}\n      |                                                                     ^\n",
+    ),
+    (
+        "int z;int main(void){int i;write_word(1);for(i=0;i<600;i++);return 1/z;}",
+        "1\ngoing\n",
+        "cclib: the image stops in place, since the program goes wrong:\n-:1:69: division of 1 by 0, in main\n    1 | int z;int main(void){int i;write_word(1);for(i=0;i<600;i++);return 1/z;}\n      |                                                                     ^\n",
     ),
 ];
 

@@ -111,6 +111,104 @@ static RUNS: [(&str, bool, &str); 6] = [
     ),
 ];
 
+// Programs, and what a run of the checked image of each prints within 1,000 instructions. The loops take fewer than 1,000 steps, and
+// more than 1,000 instructions: at least two a turn.
+static CHECKED_RUNS: [(&str, &str); 3] = [
+    (
+        "int z;int main(void){int i=600;for(;i;)i--;write_word(2);write_word(3);1/z;}",
+        "{\"cclib\":1,\"column\":73,\"file\":\"-\",\"how\":\"going\",\"kind\":\"end\",\"line\":1,\"message\":\"division of 1 by 0, in main\",\"more\":2,\"notes\":[]}\n",
+    ),
+    (
+        "int z;int main(void){int i;write_word(1);for(i=0;i<600;i++);return 1/z;}",
+        "{\"cclib\":1,\"kind\":\"word\",\"value\":1}\n{\"cclib\":1,\"column\":69,\"file\":\"-\",\"how\":\"going\",\"kind\":\"end\",\"line\":1,\"message\":\"division of 1 by 0, in main\",\"notes\":[],\"stopped\":true}\n",
+    ),
+    (
+        "int main(void){for(;;);}",
+        "{\"cclib\":1,\"how\":\"going\",\"kind\":\"end\"}\n",
+    ),
+];
+
+#[test]
+fn checked_runs_in_json(rt: HostRuntime) {
+    for (text, lines) in CHECKED_RUNS.iter() {
+        let task = Task::Run(Kind::Checked, 1000, Vec::new(rt.alloc()));
+        assert!(rt; prints(&rt, task, &[("-", text)], lines, 0), "for {lines}");
+    }
+}
+
+// The first words of lines of answers.
+static WORDS: [&str; 17] = [
+    "ok",
+    "unit",
+    "wrong",
+    "exited",
+    "ended",
+    "fault",
+    "going",
+    "trapped",
+    "code",
+    "globals",
+    "open",
+    "stack",
+    "recursion",
+    "safe",
+    "unsure",
+    "steps",
+    "executed",
+];
+
+// A program with a function of this name, which calls itself.
+fn with_function(alloc: Global, name: &str) -> Option<String> {
+    let text = format!(in alloc;
+        "int {name}(int n){{if(n)return {name}(n-1);return 0;}}int main(void){{return {name}(3);}}"
+    );
+    text.ok()
+}
+
+// Whether these are seven lines of JSON, each of the kind `line`; the first is about the function, the last about its call.
+fn are_lines(alloc: Global, written: &[u8], name: &str) -> bool {
+    let (Ok(first), Ok(last)) = (
+        format!(in alloc; "{{\"cclib\":1,\"kind\":\"line\",\"text\":\"{name} 0001000c "),
+        format!(in alloc;
+            "{{\"cclib\":1,\"kind\":\"line\",\"text\":\"recursion {name} {name}\"}}\n"
+        ),
+    ) else {
+        return false;
+    };
+    let begin = b"{\"cclib\":1,\"kind\":\"line\",\"text\":\"".as_slice();
+    let Some(lines) = written.strip_suffix(b"\n") else {
+        return false;
+    };
+    written.starts_with(first.as_bytes())
+        && written.ends_with(last.as_bytes())
+        && lines.split(|byte| *byte == b'\n').count() == 7
+        && lines
+            .split(|byte| *byte == b'\n')
+            .all(|line| line.starts_with(begin))
+}
+
+#[test]
+fn sizes_of_functions_with_any_name(rt: HostRuntime) {
+    for name in WORDS.iter() {
+        let Some(text) = with_function(rt.alloc(), name) else {
+            assert!(rt; false, "for {name}");
+            return;
+        };
+        let Ok(texts) = texts_of(rt.alloc(), &[("-", text.as_str())]) else {
+            assert!(rt; false, "for {name}");
+            return;
+        };
+        for task in [Task::Size(Kind::Plain), Task::Size(Kind::Checked)] {
+            let mut written = Vec::new(rt.alloc());
+            let status = perform_in_json(&rt, task, texts.as_slice(), false, &mut written);
+            assert!(rt;
+                status == 0 && are_lines(rt.alloc(), written.as_slice(), name),
+                "for {name}"
+            );
+        }
+    }
+}
+
 #[test]
 fn runs_in_json(rt: HostRuntime) {
     for (text, is_compiled, lines) in RUNS.iter() {
