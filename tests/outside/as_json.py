@@ -44,7 +44,8 @@ def changed(text, rng):
 
 
 COUNTED = (["interpret", "--count", "2000"], ["run", "--count", "20000", "5"], ["safe"])
-STOPPED = "cclib: the image stops in place, since the program goes wrong:"
+STOPPED = "the image stops in place, since the program goes wrong:"
+AHEAD = "with a larger STEPS the image writes {} and then stops in place, since the program goes wrong:"
 
 
 def message(it):
@@ -56,12 +57,18 @@ def told(it, before=""):
     """The lines on standard error that an object means."""
     if "message" not in it:
         return []
+    if it["kind"] == "further" and "line" not in it:
+        return ["cclib: " + message(it)]
     if "line" not in it:
         whose = "cclib: " if it["number"] in range(23, 100) else "-: "
         if it["number"] == 53 and "file" in it:
             whose += it["file"] + " "
+        elif "file" in it:
+            whose += it["file"] + ": "
         return [whose + message(it)]
-    lines = [STOPPED] if it.get("stopped") else []
+    lines = ["cclib: " + STOPPED] if it.get("stopped") else []
+    if "more" in it:
+        lines.append("cclib: " + AHEAD.format("one more word" if it["more"] == 1 else f"{it['more']} more words"))
     lines.append(f"{it['file']}:{it['line']}:{it['column']}: {before}{message(it)}")
     for note in it.get("notes", []):
         lines.append(f"{note['file']}:{note['line']}:{note['column']}: note: {note['message']}")
@@ -83,7 +90,7 @@ def plain(objects):
         elif kind == "word":
             out.append(str(it["value"]))
         elif kind == "line":
-            (err if it["text"].startswith("cclib: ") else out).append(it["text"])
+            out.append(it["text"])
         elif kind == "end":
             out.append(" ".join([it["how"], *(str(it[key]) for key in ("value", "why") if key in it)]))
             err += told(it)
@@ -125,9 +132,8 @@ def same(words, text, files, kinds):
     wanted = [line for line in lines_of(want.stderr) if is_told(line)]
     if files:
         wanted = [line.replace("A.c, B.c: ", "-: ") for line in wanted]
-    if words[0] in ("call", "diff", "log"):
-        # These commands explain what is wrong with a file in words of their own; in JSON a fault also has the
-        # message of its number.
+    if "--lines" in words:
+        # This explains what is wrong with a file in words of its own; in JSON a fault also has the message of its number.
         said = [f"cclib: {message(it)}" for it in objects if it["kind"] == "fault" and "message" in it]
         err = [line for line in err if line not in said or line in wanted]
     if not right or err != wanted:
@@ -162,7 +168,8 @@ def library(text, rng, kinds):
         print(both, want.stdout, want.stderr.decode(errors="replace"), have.stdout.decode(), out, err, sep="\n")
         wrong += 1
     for words in (["call", "one.disk", "a", "1000", "3"], ["call", "one.disk", "c", "5", "--lines"], ["diff", "one.disk", "two.disk"],
-                  ["diff", "one.disk", "none.disk"], ["log", "one.disk"], ["log", "one.disk", "a"]):
+                  ["diff", "one.disk", "none.disk"],
+                  ["diff", "one.disk", "one.disk"], ["call", "one.disk", "nosuch", "5"], ["size", "one.disk", "a"], ["size", "one.disk", "nosuch"], ["log", "one.disk"], ["log", "one.disk", "a"]):
         wrong += not same(words, b"1 2\n\nx\n", [], kinds)
     return wrong
 
@@ -185,7 +192,7 @@ def main():
                     with open(name, "wb") as file:
                         file.write(part)
                 files = ["-f", "A.c", "-f", "B.c"]
-            for words in (["check"], ["interpret", "2000"], ["run", "20000", "5"], ["run", "--checked", "20000", "5"], ["size"], *COUNTED):
+            for words in (["check"], ["interpret", "2000"], ["run", "20000", "5"], ["run", "--checked", "20000", "5"], ["size"], ["run", "--checked", "40", "5"], *COUNTED):
                 wrong += not same(words, text, files, kinds)
             if number % 10 == 0:
                 wrong += library(text, rng, kinds)

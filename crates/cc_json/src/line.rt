@@ -53,8 +53,8 @@ fn word(alloc: Global, word: i32) -> Result<LineObject, AllocError> {
     Ok(other(object))
 }
 
-/// The object for a line that is of no other kind.
-pub(crate) fn plain_line(alloc: Global, line: &[u8]) -> Result<Object, AllocError> {
+// The object for a line that is of no other kind.
+fn plain_line(alloc: Global, line: &[u8]) -> Result<Object, AllocError> {
     let mut object = Object::new(alloc, "line")?;
     object.bytes("text", line)?;
     Ok(object)

@@ -1,9 +1,8 @@
-// The object for a line that a session writes for a person.
+// The object for a line that is written for a person.
 
-use super::line::plain_line;
 use super::numbers::unsigned;
 use super::object::Object;
-use super::telling::add_message;
+use super::telling::{add_message, add_words};
 use cc_answers::words_of;
 use std::alloc::{AllocError, Global};
 
@@ -65,11 +64,19 @@ fn is_excerpt(line: &[u8]) -> bool {
     }
 }
 
+/// The words of an explanation that belongs to no place in a text.
+pub(crate) fn words_in(line: &[u8]) -> Option<&[u8]> {
+    line.strip_prefix(b"cclib: ")
+}
+
 // Whether the object for a fault already says what this line says.
 fn is_said(line: &[u8]) -> bool {
-    let Some(words) = line.strip_prefix(b"cclib: ") else {
+    let Some(words) = words_in(line) else {
         return false;
     };
+    if words.starts_with(b"the line is no command: ") {
+        return true;
+    }
     for number in 1..100 {
         if let Some(said) = words_of(number)
             && said.as_bytes() == words
@@ -80,14 +87,25 @@ fn is_said(line: &[u8]) -> bool {
     false
 }
 
-/// The object for a line of explanations; `None` if the object for a fault already says what the line says, or if the line only
-/// shows the text.
+// The object for an explanation that belongs to no place.
+fn further_object(alloc: Global, words: &[u8]) -> Result<Object, AllocError> {
+    let words = String::from_utf8_lossy(alloc, words)?;
+    let mut object = Object::new(alloc, "further")?;
+    add_words(&mut object, 0, words.as_str())?;
+    Ok(object)
+}
+
+/// The object for a line of explanations; `None` if the object for a fault already says what the line says, if the line only
+/// shows the text, and if it is empty.
 pub(crate) fn told_object(alloc: Global, line: &[u8]) -> Result<Option<Object>, AllocError> {
-    if is_excerpt(line) || is_said(line) {
+    if line.is_empty() || is_excerpt(line) || is_said(line) {
         return Ok(None);
     }
     match message_in(line) {
         Some(placed) => Ok(Some(placed_object(alloc, placed)?)),
-        None => Ok(Some(plain_line(alloc, line)?)),
+        None => {
+            let words = words_in(line).unwrap_or(line);
+            Ok(Some(further_object(alloc, words)?))
+        }
     }
 }

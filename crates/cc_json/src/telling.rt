@@ -1,6 +1,7 @@
 // Explanations of a text, as members of an object.
 
 use super::object::Object;
+use cc_answers::words_of;
 use cc_diagnostic::{Diagnostic, Related};
 use cc_sources::{NamedText, named_message, place_in};
 use cc_tasks::{Explanation, Halt};
@@ -28,6 +29,24 @@ pub(crate) fn add_message(object: &mut Object, message: &str) -> Result<(), Allo
             object.words("help", help)
         }
         None => object.words("message", message),
+    }
+}
+
+/// The words that explain a fault with this number.
+pub(crate) fn words_of_fault(number: u64) -> Option<&'static str> {
+    match u32::try_from(number) {
+        Ok(number) => words_of(number),
+        Err(_) => None,
+    }
+}
+
+/// Adds the words of an explanation. What they propose becomes the help: of the words for the fault with this number, and of those
+/// about a name that nothing has, it comes after a colon.
+pub(crate) fn add_words(object: &mut Object, number: u64, words: &str) -> Result<(), AllocError> {
+    if words_of_fault(number) == Some(words) || words.starts_with("no ") {
+        add_message(object, words)
+    } else {
+        object.words("message", words)
     }
 }
 
@@ -78,6 +97,15 @@ pub(crate) fn add_told(
     object.list("notes", notes)
 }
 
+// Adds whether a checked image has stopped, or how many more words it writes before it stops.
+fn add_halt(object: &mut Object, halt: Option<Halt>) -> Result<(), AllocError> {
+    match halt {
+        Some(Halt::Reached) => object.truth("stopped"),
+        Some(Halt::Ahead(more)) => object.count("more", more as u64),
+        None => Ok(()),
+    }
+}
+
 /// Adds what explains a fault, or an end of a run.
 pub(crate) fn add_explanation(
     alloc: Global,
@@ -95,12 +123,3 @@ pub(crate) fn add_explanation(
         (None, None) => Ok(()),
     }
 }
-// Adds whether a checked image has stopped, or how many more words it writes before it stops.
-fn add_halt(object: &mut Object, halt: Option<Halt>) -> Result<(), AllocError> {
-    match halt {
-        Some(Halt::Reached) => object.truth("stopped"),
-        Some(Halt::Ahead(more)) => object.count("more", more as u64),
-        None => Ok(()),
-    }
-}
-

@@ -2,9 +2,10 @@
 
 use super::line::{LineObject, Said, object_of_line};
 use super::object::{Object, write_object};
-use super::place::told_object;
-use super::telling::add_message;
-use cc_answers::words_of;
+use super::place::{told_object, words_in};
+use super::telling::{add_message, words_of_fault};
+use cc_answers::explain_bad_line;
+use cc_script::{Dialect, ScriptFault};
 use std::alloc::{AllocError, Global};
 use std::io::{self, Write};
 
@@ -16,6 +17,8 @@ const MOST_LINE: usize = 65_536;
 pub enum LineKind {
     /// Answers.
     Answers,
+    /// Answers to a script. BadLine (50) is explained by the commands of this dialect.
+    Script(Dialect),
     /// Explanations that go with answers.
     Told,
 }
@@ -30,30 +33,37 @@ pub struct InJson<W: Drop> {
     line: Vec<u8>,
 }
 
-// The words that explain a fault with this number.
-fn words_of_fault(number: u64) -> Option<&'static str> {
-    match u32::try_from(number) {
-        Ok(number) => words_of(number),
-        Err(_) => None,
-    }
+// Adds what a line of a script may be, if it is no command.
+fn add_commands(alloc: Global, object: &mut Object, dialect: Dialect) -> io::Result<()> {
+    let mut line = Vec::new(alloc);
+    explain_bad_line(dialect, &mut line)?;
+    let line = line.as_slice();
+    let line = line.strip_suffix(b"\n").unwrap_or(line);
+    let words = String::from_utf8_lossy(alloc, words_in(line).unwrap_or(line))?;
+    add_message(object, words.as_str())?;
+    Ok(())
 }
 
 // The object for a line of an answer, with the words that explain it if it reports a fault.
-fn answer_object(alloc: Global, line: &[u8]) -> Result<Object, AllocError> {
+fn answer_object(alloc: Global, lines: LineKind, line: &[u8]) -> io::Result<Object> {
     let LineObject { mut object, said } = object_of_line(alloc, line)?;
-    if let Said::Fault(number) = said
-        && let Some(words) = words_of_fault(number)
-    {
-        add_message(&mut object, words)?;
+    if let Said::Fault(number) = said {
+        if let LineKind::Script(dialect) = lines
+            && number == u64::from(ScriptFault::BadLine.number())
+        {
+            add_commands(alloc, &mut object, dialect)?;
+        } else if let Some(words) = words_of_fault(number) {
+            add_message(&mut object, words)?;
+        }
     }
     Ok(object)
 }
 
 // The object for a line; `None` if the line is left out.
-fn object_of(alloc: Global, lines: LineKind, line: &[u8]) -> Result<Option<Object>, AllocError> {
+fn object_of(alloc: Global, lines: LineKind, line: &[u8]) -> io::Result<Option<Object>> {
     match lines {
-        LineKind::Answers => Ok(Some(answer_object(alloc, line)?)),
-        LineKind::Told => told_object(alloc, line),
+        LineKind::Answers | LineKind::Script(_) => Ok(Some(answer_object(alloc, lines, line)?)),
+        LineKind::Told => Ok(told_object(alloc, line)?),
     }
 }
 
