@@ -7,9 +7,11 @@ use cc_call::{StoredSize, size_on};
 use cc_command_line::Measuring;
 use cc_filing::{buffers, library_disk};
 use cc_findings::write_measure;
+use cc_link::Audit;
+use cc_task::Kind;
 use cc_tasks::{PartFault, mode_of};
 use std::alloc::{AllocError, Global};
-use std::io::Write;
+use std::io::{self, Write};
 
 // How much memory the image of the unit takes.
 fn size_of<E: Write>(
@@ -25,8 +27,26 @@ fn size_of<E: Write>(
     size
 }
 
+// Explains to a person why an audit may not confirm the unit under a name.
+fn explain_left<E: Write>(name: &str, kind: Kind, told: &mut E) -> io::Result<()> {
+    let (asked, other) = match kind {
+        Kind::Plain => ("without", "with"),
+        Kind::Checked => ("with", "without"),
+    };
+    writeln!(
+        told,
+        "cclib: {name}: this version does not make it {asked} --checked: it was compiled {other} --checked, another version made it, or it is damaged"
+    )?;
+    told.flush()
+}
+
 // Writes how much memory an image takes, or what an audit says about the unit. The result is the status.
-fn answer<W: Write, E: Write>(name: &[u8], size: &StoredSize, writer: &mut W, told: &mut E) -> u8 {
+fn answer<W: Write, E: Write>(
+    asked: &Measuring,
+    size: &StoredSize,
+    writer: &mut W,
+    told: &mut E,
+) -> u8 {
     match size {
         StoredSize::Confirmed(measure) => {
             let written = write_measure(measure, writer);
@@ -36,8 +56,11 @@ fn answer<W: Write, E: Write>(name: &[u8], size: &StoredSize, writer: &mut W, to
             0
         }
         StoredSize::Left(audit) => {
-            if tell_audit(name, *audit, writer).is_err() {
+            if tell_audit(asked.name.as_bytes(), *audit, writer).is_err() {
                 return unwritten(told);
+            }
+            if let Audit::Unconfirmed = audit {
+                let _ = explain_left(asked.name.as_str(), asked.kind, told);
             }
             1
         }
@@ -57,7 +80,7 @@ pub fn size_in_file<R: AllocGlobal, A: Write + Drop, E: Write + Drop>(
 ) -> Result<u8, AllocError> {
     let (mut writer, mut told) = buffers(rt.alloc(), answers, errors, is_quiet)?;
     Ok(match size_of(rt.alloc(), files, asked, &mut told) {
-        Ok(size) => answer(asked.name.as_bytes(), &size, &mut writer, &mut told),
+        Ok(size) => answer(asked, &size, &mut writer, &mut told),
         Err(fault) => refuse(fault, &mut writer, &mut told),
     })
 }

@@ -73,13 +73,15 @@ fn write_failed<E: Write>(
                     .get(*at..at.saturating_add(*length))
                     .unwrap_or(b"a function"),
             )?;
-            explanations.write_all(b": another version made it, or it is damaged\n")?;
+            explanations.write_all(
+                b": it was compiled in the other mode (with --checked, or without), another version made it, or it is damaged\n",
+            )?;
         }
         FailedPart::Certificate => explanations.write_all(
             b": the certificate has another number of functions, or bytes that are left over\n",
         )?,
         FailedPart::Image => explanations.write_all(
-            b": the image is not what this version makes: another version made it, or it is damaged\n",
+            b": the image is not what this version makes: it was compiled in the other mode (with --checked, or without), another version made it, or it is damaged\n",
         )?,
     }
     explanations.flush()

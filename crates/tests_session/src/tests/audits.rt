@@ -119,13 +119,13 @@ fn the_part_that_fails_is_explained(rt: HostRuntime) -> Result<(), Fail> {
     let image = explained(&rt, alloc, body(alloc, 2, right.as_slice())?.as_slice())?;
     assert_eq!(rt;
         image.as_slice(),
-        b"cclib: a: the image is not what this version makes: another version made it, or it is damaged\n".as_slice()
+        b"cclib: a: the image is not what this version makes: it was compiled in the other mode (with --checked, or without), another version made it, or it is damaged\n".as_slice()
     );
     let empty = body(alloc, 2, &[0, 0, 0, 0])?;
     let function = explained(&rt, alloc, empty.as_slice())?;
     assert_eq!(rt;
         function.as_slice(),
-        b"cclib: a: the certificate does not show the code of main: another version made it, or it is damaged\n".as_slice()
+        b"cclib: a: the certificate does not show the code of main: it was compiled in the other mode (with --checked, or without), another version made it, or it is damaged\n".as_slice()
     );
     // A text whose last byte is `]`.
     let mut refused = body(alloc, 2, &[0, 0, 0, 0])?;
