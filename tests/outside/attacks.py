@@ -2217,6 +2217,31 @@ def team(place):
     all_must(wrong)
 
 
+def named(folder, words):
+    """Makes the files that a command line names: each word after the first that is neither an option nor a number."""
+    for word in words[1:]:
+        if re.fullmatch(r"[a-z]+\.[a-z]+|sum|main|quotient|spool", word):
+            write(f"{folder}/{word}", "")
+
+
+@attack("./cclib with each example of its help, while files of all the names in it are there")
+def launcher(place):
+    """What the help shows reaches the program as it is: no word is taken for the file of a program. Only the program can say which word is one."""
+    here, wrong = Tree(place), []
+    write(f"{here.top}/crates/cclib/out/cclib", '#!/bin/sh\nprintf "%s\\n" "$@"\n', 0o755)
+    subprocess.run(["bash", "-c", SEEN, "bash", os.path.realpath(here.top)], check=True)
+    with open(f"{here.top}/docs/help.txt") as file:
+        lines = [it.split("<")[0].split(">")[0].split()[1:] for it in file if it.startswith("  cclib ")]
+    must(len(lines) > 20, f"the help has {len(lines)} examples")
+    lines += [["call", "units.disk", "sum", "100", "--lines"], ["stages", "main"], ["cover", "10", "--lines", "main.c", "-f", "table.c"]]
+    for words in lines:
+        named(place.work, words)
+        done = here.run(f"{here.top}/cclib", *words, cwd=place.work)
+        is_right = (done.returncode, done.stdout) == (0, "".join(f"{it}\n" for it in words))
+        wrong += [f"./cclib {' '.join(words)}: status {done.returncode}, {done.stderr[:90]!r}"] * (not is_right)
+    all_must(wrong)
+
+
 # ---- all of them
 
 

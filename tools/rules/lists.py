@@ -1,7 +1,9 @@
 """What is in two places is the same in both: texts that the program, its script, its tests and its documents each have for themselves."""
 import os
 import re
+import shutil
 import subprocess
+import tempfile
 
 TOP = os.path.dirname(os.path.dirname(os.path.dirname(os.path.abspath(__file__))))
 PROGRAMS = "crates/tests_texts/src/programs.rt"
@@ -41,6 +43,56 @@ def help_texts():
     return wrong + differ("./cclib --version and VERSION", said("cclib", "--version"), found(r'^static VERSION: &str = "(.*?)^";$', test))
 
 
+def of_help():
+    """Returns the commands that docs/help.txt names."""
+    return re.findall(r"^  ([a-z]+) ", found(r"^Commands:\n(.*?)\n\n", read("docs/help.txt")), re.M)
+
+
+def listed_by(launcher):
+    """Returns the commands that the launcher names in its code, apart from comments and messages. Two places may name some: `./cclib help`
+    is answered without a build, and --quick makes paths whole."""
+    code = re.sub(r"^quick\(\) \{\n.*?^\}\n", "", launcher, flags=re.M | re.S)
+    code = re.sub(r"(^|\s)#.*$", "", code, flags=re.M)
+    code = re.sub(r'"[^"]*"|--[a-z]+', "", code).replace("-h | help)", "")
+    return sorted(set(of_help()) & set(re.findall(r"[a-z]+", code)))
+
+
+def start(folder, kit, words):
+    """Returns the status and the output of the launcher in this folder, before anything is built."""
+    shutil.rmtree(f"{folder}/crates/cclib/out", ignore_errors=True)
+    how = {"stdin": subprocess.DEVNULL, "stdout": subprocess.PIPE, "stderr": subprocess.PIPE, "env": {**os.environ, "PATH": f"{kit}:{os.environ['PATH']}"}}
+    done = subprocess.run([f"{folder}/cclib", *words], text=True, check=False, **how)
+    return done.returncode, done.stdout
+
+
+BUILD = """#!/bin/sh
+cd "$(dirname "$0")/crates/cclib" && mkdir -p out/rlib && printf '#!/bin/sh\\necho "$*"\\n' > out/cclib && chmod +x out/cclib
+"""
+
+
+def launcher():
+    """./cclib has no list of commands: what docs/help.txt names is built and run, after options too, and nothing else is. A stand-in builds."""
+    names = listed_by(read("cclib"))
+    wrong = [f"cclib names commands in its code: {' '.join(names)}"] if names else []
+    with tempfile.TemporaryDirectory() as work:
+        clone, kit = f"{work}/clone", f"{work}/kit"
+        for folder in (f"{clone}/docs", f"{clone}/crates/cclib/src", kit):
+            os.makedirs(folder)
+        for name in ("cclib", "VERSION", "crates.txt", "docs/help.txt"):
+            shutil.copy(f"{TOP}/{name}", f"{clone}/{name}")
+        for path, text in ((f"{clone}/prove-below", BUILD), (f"{kit}/rt", "#!/bin/sh\n")):
+            with open(path, "w", encoding="utf-8") as file:
+                file.write(text)
+            os.chmod(path, 0o755)
+        for words in [[it, "a word"] for it in of_help()] + [["--json", "--quiet", "check"]]:
+            if start(clone, kit, words) != (0, f"{' '.join(words)}\n"):
+                wrong.append(f"./cclib {' '.join(words)} is not built and run")
+        for words in (["planted"], ["--json", "planted"], []):
+            if start(clone, kit, words) != (2, ""):
+                wrong.append(f"./cclib {' '.join(words)} is not refused")
+    return wrong
+
+
 def version():
     """The version is in VERSION; the program and what ./cclib says without a build have the same."""
     code = read("crates/cc_command_line/src/commands.rt")
@@ -57,7 +109,7 @@ def programs():
 
 def in_help(name, file):
     """Returns the commands that a help text shows."""
-    text = found(rf'^const {name}: &str = "\\\n(.*?)";$', read(f"crates/cc_command_line/src/{file}.rt"))
+    text = found(rf'^(?:pub(?:\(crate\))? )?const {name}: &str = "\\\n(.*?)";$', read(f"crates/cc_command_line/src/{file}.rt"))
     return re.findall(r"^  ([a-z]+(?: [A-Z]+)*)(?:  .*)?$", text, re.M)
 
 
