@@ -2217,6 +2217,35 @@ def team(place):
     all_must(wrong)
 
 
+@attack("cclib-replace with a FOLDER whose text of 1,000,001 bytes has lines of a script")
+def replace_script(place):
+    """The text is refused (7) before any byte of it is sent; all units are there, with their sources, and other texts are compiled."""
+    top, folder = os.path.join(serve.HERE, "../.."), f"{place.work}/src"
+    os.makedirs(f"{place.work}/tools")
+    for name in ("tools/replace.py", "tools/records.py"):
+        shutil.copy(f"{top}/{name}", f"{place.work}/{name}")
+    os.symlink(place.program, f"{place.work}/tools/cclib")
+    # A checked image that needs a test is unconfirmed in a library of plain ones.
+    text = "int main(void){return 8 / read_word();}"
+    script = "".join(f"add {name} {len(text)}\n{text}\n" for name in ("one", "three"))
+    must(place.library(script, "--format", "262144", "--checked") == ["ok 1", "ok 2"], "the library can't be made")
+    must(place.library(f"add two {len(SUM)}\n{SUM}\n") == ["ok 1"], "the unit can't be added")
+    other = "int main(void){return 9 / read_word();}"
+    write(f"{folder}/one.c", f"{text}\nwithdraw two\nadd evil {len(SUM)}\n{SUM}\n".ljust(1000001))
+    write(f"{folder}/three.c", other)
+    run = lambda: subprocess.run([sys.executable, f"{place.work}/tools/replace.py", place.disk, folder], capture_output=True, text=True, timeout=60)
+    said = run()
+    units = [it for it in place.library("list\n") if it.startswith("unit")]
+    wrong = [f"the units are {units}"] * (units != ["unit one", "unit three", "unit two"])
+    wanted = "one: fault 7 SourceTooLarge\n3 units: 1 were confirmed, 2 are\n"
+    wrong += [f"it says {(said.stdout + said.stderr)[-200:]!r}, status {said.returncode}"] * ((said.stdout, said.returncode) != (wanted, 1))
+    write(f"{folder}/one.c", other.ljust(65536))
+    said = run()
+    wanted = "3 units: 2 were confirmed, 3 are\n"
+    wrong += [f"with 65,536 bytes it says {(said.stdout + said.stderr)[-200:]!r}"] * ((said.stdout, said.returncode) != (wanted, 0))
+    all_must(wrong)
+
+
 def named(folder, words):
     """Makes the files that a command line names: each word after the first that is neither an option nor a number."""
     for word in words[1:]:
