@@ -2,15 +2,24 @@
 # What a firmware team does with a library of units, from the first `add` to the images for a board: examples/team/team.sh [FOLDER]
 #
 # Four units are stored, one is replaced, all are listed and audited; source and image of each are taken out, the image is read by objcopy and compared with
-# the listing, and, where qemu is there, run on a core that knows nothing of cclib, with the start of start.s and with no more stack than `size` says.
+# the listing, and, where qemu is there, run on a core that knows nothing of cclib, with the start of start.s and with no more stack than `size` says of the stored unit.
 # FOLDER (made, else a temporary one) has the library and the images afterwards. CCLIB names the program, where it is not ./cclib. The status is 0 where all is as it should be.
 set -euo pipefail
 here=$(CDPATH='' cd -- "$(dirname -- "$(readlink -f -- "$0")")" && pwd)
-cclib=${CCLIB:-$here/../../cclib}
-if [ $# -gt 0 ]; then mkdir -p "$1"; out=$(CDPATH='' cd -- "$1" && pwd); else out=$(mktemp -d); trap 'rm -rf "$out"' EXIT; fi
-library=$out/team.disk
+cclib=$(command -v -- "${CCLIB:-$here/../../cclib}") || { echo "team: no program ${CCLIB:-$here/../../cclib}" >&2; exit 1; }
+[[ $cclib == /* ]] || cclib=$PWD/$cclib
+# All files get short names in the folder: qemu takes a comma of its path for the next option.
+if [ $# -gt 0 ]; then
+  [[ $1 == /* ]] || set -- "./$1"
+  mkdir -p "$1"
+  CDPATH='' cd "$1"
+else
+  out=$(mktemp -d)
+  trap 'rm -rf "$out"' EXIT
+  cd "$out"
+fi
 # A library that somebody may have added to is not formatted anew.
-[ ! -e "$library" ] || { echo "team: $library is there: give another folder, or remove it" >&2; exit 1; }
+[ ! -e team.disk ] || { echo "team: $PWD/team.disk is there: give another folder, or remove it" >&2; exit 1; }
 tool=riscv64-unknown-elf
 
 # What each unit reads when it is tried: the check sequence of CRC-16 ("123456789"), three frames, twenty seconds, seven readings.
@@ -28,41 +37,41 @@ fail() { echo "team: $1" >&2; exit 1; }
 put() { printf '%s %s %d\n' "$1" "$2" "$(wc -c <"$here/$3")"; cat "$here/$3"; echo; }
 
 echo "== stored"
-{ put add checksum checksum.c; put add frame frame.c; put add lamp lamp.c; put add heater heater.c; } | "$cclib" library "$library" --format 262144
+{ put add checksum checksum.c; put add frame frame.c; put add lamp lamp.c; put add heater heater.c; } | "$cclib" library team.disk --format 262144
 
 echo "== replaced, listed, audited"
-{ put replace lamp lamp-longer.c; echo list; echo audit; } | "$cclib" library "$library"
+{ put replace lamp lamp-longer.c; echo list; echo audit; } | "$cclib" library team.disk
 
 for unit in checksum frame lamp heater; do
   echo "== $unit"
-  "$cclib" source "$library" $unit | cmp - "$here/${source[$unit]}" || fail "the source of $unit is another one"
-  "$cclib" image "$library" $unit >"$out/$unit.hex"
-  "$cclib" asm <"$here/${source[$unit]}" >"$out/$unit.lst"
-  "$cclib" size <"$here/${source[$unit]}" | tee "$out/$unit.size"
+  "$cclib" source team.disk $unit | cmp - "$here/${source[$unit]}" || fail "the source of $unit is another one"
+  "$cclib" image team.disk $unit >"$unit.hex"
+  "$cclib" asm <"$here/${source[$unit]}" >"$unit.lst"
+  "$cclib" size team.disk $unit | tee "$unit.size"
   # shellcheck disable=SC2086
-  "$cclib" run 100000 ${words[$unit]} <"$here/${source[$unit]}" | tee "$out/$unit.said"
+  "$cclib" run 100000 ${words[$unit]} <"$here/${source[$unit]}" | tee "$unit.said"
   command -v $tool-objcopy >/dev/null || { echo "team: no $tool-objcopy here: the image is not compared" >&2; continue; }
 
   # The code's words by objcopy are those of the listing.
-  $tool-objcopy -I ihex -O binary "$out/$unit.hex" "$out/$unit.bin"
-  lines=$(wc -l <"$out/$unit.lst")
-  cmp <(cut -d' ' -f2 "$out/$unit.lst") <(head -c $((4 * lines)) "$out/$unit.bin" | od -An -v -w4 -tx4 | tr -d ' ') || fail "the image of $unit is not its listing"
+  $tool-objcopy -I ihex -O binary "$unit.hex" "$unit.bin"
+  lines=$(wc -l <"$unit.lst")
+  cmp <(cut -d' ' -f2 "$unit.lst") <(head -c $((4 * lines)) "$unit.bin" | od -An -v -w4 -tx4 | tr -d ' ') || fail "the image of $unit is not its listing"
   command -v qemu-system-riscv32 >/dev/null || { echo "team: no qemu-system-riscv32 here: the image is not run on another core" >&2; continue; }
 
   # The globals' end: the image begins at 0x00010000, and has globals where it goes on beyond 0x00200000.
-  size=$(wc -c <"$out/$unit.bin")
+  size=$(wc -c <"$unit.bin")
   end=$((65536 + size > 2097152 ? 65536 + size : 2097152))
   # So many bytes below 0x00800000 the image has, and none below them.
-  stack=$(sed -n 's/^stack //p' "$out/$unit.size")
+  stack=$(sed -n 's/^stack //p' "$unit.size")
   # shellcheck disable=SC2086
-  { printf '.data\n.globl input\n.balign 4\ninput: .word '; wc -w <<<"${words[$unit]}"; printf '.word %s\n' ${words[$unit]}; } >"$out/input.s"
-  for file in "$here/start.s" "$here/qemu.s" "$out/input.s"; do $tool-as -march=rv32im_zicsr -mabi=ilp32 "$file" -o "$out/$(basename "$file" .s).o"; done
-  $tool-ld --no-relax -m elf32lriscv -e backed -Ttext=0x1000 -Tdata=0x2000 --defsym globals_end=$end --defsym stack_from=$((8388608 - stack)) "$out/start.o" "$out/qemu.o" "$out/input.o" -o "$out/start.elf"
+  { printf '.data\n.globl input\n.balign 4\ninput: .word '; wc -w <<<"${words[$unit]}"; printf '.word %s\n' ${words[$unit]}; } >input.s
+  for file in "$here/start.s" "$here/qemu.s" input.s; do $tool-as -march=rv32im_zicsr -mabi=ilp32 "$file" -o "$(basename "$file" .s).o"; done
+  $tool-ld --no-relax -m elf32lriscv -e backed -Ttext=0x1000 -Tdata=0x2000 --defsym globals_end=$end --defsym stack_from=$((8388608 - stack)) start.o qemu.o input.o -o start.elf
   status=0
   timeout 60 qemu-system-riscv32 -M none -cpu rv32 -m 16M -display none -monitor none -serial none \
-    -semihosting-config enable=on,target=native,chardev=words -chardev file,id=words,path="$out/$unit.words" \
-    -device loader,file="$out/$unit.hex" -device loader,file="$out/start.elf",cpu-num=0 || status=$?
-  { od -An -v -w4 -td4 "$out/$unit.words" | tr -d ' '; echo "exited $status"; } >"$out/$unit.qemu"
-  cmp "$out/$unit.said" "$out/$unit.qemu" || fail "$unit does something else on qemu's core"
+    -semihosting-config enable=on,target=native,chardev=words -chardev file,id=words,path="$unit.words" \
+    -device loader,file="$unit.hex" -device loader,file=start.elf,cpu-num=0 || status=$?
+  { od -An -v -w4 -td4 "$unit.words" | tr -d ' '; echo "exited $status"; } >"$unit.qemu"
+  cmp "$unit.said" "$unit.qemu" || fail "$unit does something else on qemu's core"
   echo "(the same on qemu's core, with $stack bytes of stack)"
 done

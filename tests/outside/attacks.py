@@ -2217,6 +2217,52 @@ def team(place):
     all_must(wrong)
 
 
+# What qemu, objcopy, as and ld of a firmware team do, as far as team.sh sees it. Like qemu, this takes a comma for the end of an option's
+# value, and knows no option of another name; it writes the words that `run` had.
+TOOLS = """#!/usr/bin/env python3
+import os, struct, sys
+tool, words = os.path.basename(sys.argv[0]), sys.argv[1:]
+if tool.endswith("objcopy"):
+    memory, base = {}, 0
+    for line in open(words[-2]):
+        data = bytes.fromhex(line.strip()[1:])
+        if data[3] == 4:
+            base = int.from_bytes(data[4:6], "big") << 16
+        elif data[3] == 0:
+            memory.update({base + int.from_bytes(data[1:3], "big") + at: data[4 + at] for at in range(data[0])})
+    with open(words[-1], "wb") as out:
+        out.write(bytes(memory.get(at, 0) for at in range(min(memory), max(memory) + 1)))
+elif not tool.startswith("qemu"):
+    open(words[words.index("-o") + 1], "w").close()
+else:
+    values = [words[at + 1] for at in range(len(words)) if words[at] in ("-chardev", "-device")]
+    parts = [dict(it.partition("=")[::2] for it in value.split(",")) for value in values]
+    if any(set(it) - {"file", "id", "path", "loader", "cpu-num"} for it in parts):
+        sys.exit("Invalid parameter")
+    (path,) = [it["path"] for it in parts if "path" in it]
+    *said, end = open(os.path.splitext(path)[0] + ".said").read().split("\\n")[:-1]
+    with open(path, "wb") as out:
+        out.write(b"".join(struct.pack("<i", int(it)) for it in said))
+    sys.exit(int(end.split()[1]))
+"""
+
+
+@attack("team.sh with a FOLDER that has a comma and spaces, that begins with `-`, that is `-`; qemu and binutils stand in", 400)
+def team_names(place):
+    """Any name of a folder is right: all is made in it, and nothing elsewhere."""
+    for name in ("as", "ld", "objcopy"):
+        write(f"{place.work}/tools/riscv64-unknown-elf-{name}", TOOLS, 0o755)
+    write(f"{place.work}/tools/qemu-system-riscv32", TOOLS, 0o755)
+    known = {**os.environ, "CCLIB": place.program, "PATH": f"{place.work}/tools:{os.environ['PATH']}"}
+    script, wrong = os.path.join(serve.HERE, "../../examples/team/team.sh"), []
+    for name in ("plain", "a, b,path=c", "-lead", "-", "--"):
+        aside = tempfile.mkdtemp(dir=place.work)
+        done = subprocess.run([script, name], cwd=aside, env=known, stdin=subprocess.DEVNULL, capture_output=True, text=True, timeout=100)
+        is_right = done.returncode == 0 and os.listdir(aside) == [name] and done.stdout.count("(the same on qemu's core, ") == 4
+        wrong += [f"FOLDER {name!r}: status {done.returncode}, {os.listdir(aside)}, {done.stderr[-120:]!r}"] * (not is_right)
+    all_must(wrong)
+
+
 @attack("cclib-replace with a FOLDER whose text of 1,000,001 bytes has lines of a script")
 def replace_script(place):
     """The text is refused (7) before any byte of it is sent; all units are there, with their sources, and other texts are compiled."""
