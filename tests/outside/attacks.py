@@ -772,7 +772,7 @@ TASKS = [
     ("serve --help", "", PRINTS),
     ("", "", USAGE),
     ("frobnicate", "", USAGE),
-    ("check more", SUM, USAGE),
+    ("asm more", SUM, USAGE),
     ("library", "", USAGE),
     ("serve DISK", "", USAGE),
 ]

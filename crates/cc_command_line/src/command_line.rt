@@ -9,12 +9,15 @@ use crate::given::kind_of;
 use crate::json::{JSON, JSON_RULE, is_told_in_json};
 use crate::keeping::{Keeping, call_of, copy_of, diff_of, log_of, restore_of};
 use crate::library::{Session, library_of};
-use crate::program::{interpret_of, run_of, stages_of};
-use crate::refused::{Refused, error_of};
+use crate::program::{asm_of, interpret_of, run_of, safe_of, stages_of};
+use crate::refused::{Refused, error_of, error_of_all};
+use crate::row::{Reader, Row};
 use crate::spool::{Server, Submitter, serve_of, submit_of};
+use crate::tips::no_command_text;
 use crate::unit::{Wanted, image_of, size_of, source_of};
 use crate::watch::{Covered, Traced, cover_of, trace_of};
 use cc_task::{Kind, Task};
+use clap::error::ErrorKind;
 use clap::{ArgMatches, Error};
 use std::alloc::{AllocError, Global};
 use std::convert::AsStr;
@@ -53,30 +56,32 @@ pub struct Invocation {
     pub files: Vec<String>,
 }
 
-// What the words of this command ask for.
-fn work_of(alloc: Global, name: &str, given: &ArgMatches<'_>) -> Result<Work, Refused>
+const NO_COMMAND_RULE: &str = "a command is required: cclib --help lists them";
+
+// What the words that are given to a command ask for, by its reader.
+fn work_of(alloc: Global, reader: Reader, given: &ArgMatches<'_>) -> Result<Work, Refused>
     ensures { IfOk result IsAllowed }
 {
-    match name {
-        "interpret" => interpret_of(alloc, given),
-        "run" => run_of(alloc, given),
-        "trace" => trace_of(alloc, given),
-        "cover" => cover_of(alloc, given),
-        "asm" => Ok(Work::One(Task::Asm(kind_of(given)))),
-        "stages" => stages_of(alloc, given),
-        "size" => size_of(alloc, given),
-        "safe" => Ok(Work::One(Task::Safe)),
-        "image" => image_of(alloc, given),
-        "source" => source_of(alloc, given),
-        "call" => call_of(alloc, given),
-        "diff" => diff_of(alloc, given),
-        "log" => log_of(alloc, given),
-        "restore" => restore_of(alloc, given),
-        "copy" => copy_of(alloc, given),
-        "library" => library_of(alloc, given),
-        "serve" => serve_of(alloc, given),
-        "submit" => submit_of(alloc, given),
-        _ => Ok(Work::One(Task::Check)),
+    match reader {
+        Reader::Check => Ok(Work::One(Task::Check)),
+        Reader::Interpret => interpret_of(alloc, given),
+        Reader::Run => run_of(alloc, given),
+        Reader::Trace => trace_of(alloc, given),
+        Reader::Cover => cover_of(alloc, given),
+        Reader::Asm => asm_of(given),
+        Reader::Stages => stages_of(alloc, given),
+        Reader::Size => size_of(alloc, given),
+        Reader::Safe => safe_of(given),
+        Reader::Image => image_of(alloc, given),
+        Reader::Source => source_of(alloc, given),
+        Reader::Call => call_of(alloc, given),
+        Reader::Diff => diff_of(alloc, given),
+        Reader::Log => log_of(alloc, given),
+        Reader::Restore => restore_of(alloc, given),
+        Reader::Copy => copy_of(alloc, given),
+        Reader::Library => library_of(alloc, given),
+        Reader::Serve => serve_of(alloc, given),
+        Reader::Submit => submit_of(alloc, given),
     }
 }
 
@@ -94,14 +99,14 @@ fn broken_rule(work: &Work, files: usize, is_json: bool) -> Option<&'static str>
 // What the words of this command ask for, with its files and these options, if they break no rule.
 fn invoked(
     alloc: Global,
-    name: &str,
+    reader: Reader,
     given: &ArgMatches<'_>,
     is_quiet: bool,
     is_json: bool,
 ) -> Result<Invocation, Refused>
     ensures { IfOk result (λ request. IsAllowed request.work) }
 {
-    let work = work_of(alloc, name, given)?;
+    let work = work_of(alloc, reader, given)?;
     let files = match files_of(alloc, given) {
         Ok(files) => files,
         Err(refused) => {
@@ -124,31 +129,52 @@ fn invoked(
     }
 }
 
+// The row of the command that was given, and the words that were given to it.
+fn given_in<'a, 'b>(matches: &'b ArgMatches<'a>) -> Option<(&'static Row, &'b ArgMatches<'a>)> {
+    let (name, given) = matches.subcommand()?;
+    Some((row_of(name)?, given))
+}
+
+// The parser's error, or one that says more, if the first word is no command.
+fn better(alloc: Global, error: Error, text: Option<String>) -> Result<Error, AllocError> {
+    match text {
+        Some(text) => {
+            drop(error);
+            error_of_all(alloc, text.as_str())
+        }
+        None => Ok(error),
+    }
+}
+
 /// Reads the command line, whose first word is the program's name.
 ///
 /// The error is clap's: its text goes to standard error and its status is 2, except for a text of help.
 pub fn read_invocation<'a, S: AsStr>(alloc: Global, words: &'a [S]) -> Result<Invocation, Error>
     ensures { IfOk result (λ request. IsAllowed request.work) }
 {
-    let matches = command_of_all(alloc)?.try_get_matches_from(words)?;
+    let matches = match command_of_all(alloc)?.try_get_matches_from(words) {
+        Ok(matches) => matches,
+        Err(error) if error.kind() == ErrorKind::InvalidSubcommand => {
+            let text = no_command_text(alloc, words)?;
+            return Err(better(alloc, error, text)?);
+        }
+        Err(error) => return Err(error),
+    };
     let is_quiet = matches.get_flag("quiet");
     let is_json = matches.get_flag("json");
-    let (name, given) = matches.subcommand().unwrap_or(("check", &matches));
-    let asked = invoked(alloc, name, given, is_quiet, is_json);
-    drop(matches);
-    match asked {
+    let Some((row, given)) = given_in(&matches) else {
+        drop(matches);
+        return Err(error_of_all(alloc, NO_COMMAND_RULE)?);
+    };
+    match invoked(alloc, row.reader, given, is_quiet, is_json) {
         Ok(invocation) => Ok(invocation),
-        Err(refused) => Err(error_of(alloc, row_of(name), refused)?),
+        Err(refused) => Err(error_of(alloc, row, given, refused)?),
     }
 }
 
 /// Clap's error for a command line with a word that is not UTF-8. Its status is 2. `AllocError` if memory ran out.
 pub fn refused_bytes(alloc: Global) -> Result<Error, AllocError> {
-    error_of(
-        alloc,
-        row_of("cclib"),
-        Refused::ByAll("a word of the command line is not UTF-8"),
-    )
+    error_of_all(alloc, "a word of the command line is not UTF-8")
 }
 
 /// The work that a command line asks for, as `read_invocation` reads it.

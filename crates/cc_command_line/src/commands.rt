@@ -4,7 +4,7 @@ use crate::json::JSON;
 use crate::keeping::{CALL, COPY, DIFF, LOG, RESTORE};
 use crate::library::LIBRARY;
 use crate::program::{ASM, CHECK, INTERPRET, RUN, SAFE, STAGES};
-use crate::row::{Form, Row, Word, command_of};
+use crate::row::{Form, Row, Word, command_of, with_words};
 use crate::spool::{SERVE, SUBMIT};
 use crate::unit::{IMAGE, SIZE, SOURCE};
 use crate::watch::{COVER, TRACE};
@@ -59,14 +59,11 @@ pub(crate) const QUIET: Word = Word(
     "Write no explanations to standard error",
 );
 
-/// The program itself, with the options of all commands.
-static CCLIB: Row = Row {
-    name: "cclib",
-    whole: "cclib",
-    about: "Reads a C program from standard input or files: checks, interprets, compiles and runs it, or keeps compiled programs in a file",
-    words: &[QUIET, JSON],
-    help: WHOLE_HELP,
-};
+const WHOLE_ABOUT: &str =
+    "Reads a C program from standard input or files: checks, interprets, compiles and runs it, or keeps compiled programs in a file";
+
+// The options of all commands.
+static WHOLE_WORDS: &[Word] = &[QUIET, JSON];
 
 const COMMANDS: usize = 19;
 
@@ -98,9 +95,12 @@ fn row_at(at: usize) -> Option<&'static Row> {
 
 /// The parser of all commands.
 pub(crate) fn command_of_all<'a>(alloc: Global) -> Result<Command<'a>, AllocError> {
-    let mut whole = command_of(alloc, &CCLIB)?
+    let parser = Command::new(alloc, "cclib")
+        .about(WHOLE_ABOUT)
+        .after_help(WHOLE_HELP)
         .version("0.1.0")
         .subcommand_required(true);
+    let mut whole = with_words(alloc, parser, WHOLE_WORDS)?;
     for at in 0..COMMANDS {
         let Some(row) = row_at(at) else {
             continue;
@@ -116,13 +116,13 @@ pub(crate) fn command_of_all<'a>(alloc: Global) -> Result<Command<'a>, AllocErro
     Ok(whole)
 }
 
-/// The row of the command with this name; that of the whole program for any other name.
-pub(crate) fn row_of(name: &str) -> &'static Row {
+/// The row of the command with this name.
+pub(crate) fn row_of(name: &str) -> Option<&'static Row> {
     for at in 0..COMMANDS {
         match row_at(at) {
-            Some(row) if row.name == name => return row,
+            Some(row) if row.name == name => return Some(row),
             _ => {}
         }
     }
-    &CCLIB
+    None
 }

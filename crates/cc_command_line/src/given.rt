@@ -27,6 +27,9 @@ pub(crate) const INPUT: Word = Word(
     "The input words: 0 to 4294967295 each",
 );
 
+/// What a command that reads a program takes no more of.
+pub(crate) const UNEXPECTED: Word = Word("UNEXPECTED", Form::Unexpected, "");
+
 pub(crate) const COUNT: Word = Word(
     "count",
     Form::Flag,
@@ -78,14 +81,14 @@ const WORKER_COUNTS: Allowed = Allowed(1, 8, "N is a decimal number from 1 to 8"
 
 const INPUT_RULE: &str =
     "WORD is a decimal number from 0 to 4294967295; a negative number is written as its value modulo 4294967296, \
-    for example 4294967295 for -1; a file is named by --file FILE";
+    for example 4294967295 for -1";
 
 const PATH_RULE: &str = "an empty path names no file and no folder";
 
 /// The number that a word or an option gives, if it is allowed. Anything else breaks the rule, which is then shown.
 pub(crate) fn number_of(
     given: &ArgMatches<'_>,
-    name: &str,
+    name: &'static str,
     allowed: Allowed,
 ) -> Result<u64, Refused>
     ensures { IfOk result (λ n. (allowed.0 ≤ n) × (n ≤ allowed.1)) }
@@ -93,14 +96,14 @@ pub(crate) fn number_of(
     let Allowed(least, most, rule) = allowed;
     match number_in(given.get_str(name).unwrap_or(""), least, most) {
         Some(number) => Ok(number),
-        None => Err(Refused::ByCommand(rule)),
+        None => Err(Refused::ByWord(rule, name)),
     }
 }
 
 /// As `number_of`, if the word or the option is given.
 pub(crate) fn number_if_given(
     given: &ArgMatches<'_>,
-    name: &str,
+    name: &'static str,
     allowed: Allowed,
 ) -> Result<Option<u64>, Refused>
     ensures { IfOk result (λ number. IfSome number (λ n. (allowed.0 ≤ n) × (n ≤ allowed.1))) }
@@ -137,8 +140,16 @@ fn words_in(alloc: Global, texts: &[&str]) -> Result<Option<Vec<u32>>, AllocErro
 pub(crate) fn input_of(alloc: Global, given: &ArgMatches<'_>) -> Result<Vec<u32>, Refused> {
     match words_in(alloc, given.get_strs("WORD").unwrap_or(&[]))? {
         Some(words) => Ok(words),
-        None => Err(Refused::ByCommand(INPUT_RULE)),
+        None => Err(Refused::ByWord(INPUT_RULE, INPUT.0)),
     }
+}
+
+/// Refuses the words that a command does not take, if any is given.
+pub(crate) fn expect_no_more(given: &ArgMatches<'_>) -> Result<(), Refused> {
+    if given.get_strs(UNEXPECTED.0).is_some() {
+        return Err(Refused::Unexpected);
+    }
+    Ok(())
 }
 
 /// How an image is compiled.

@@ -10,7 +10,7 @@ use crate::given::{
     steps_of, text_if_given, texts_of, unit_of,
 };
 use crate::refused::Refused;
-use crate::row::{Form, Row, Word};
+use crate::row::{Form, Reader, Row, Word};
 use crate::unit::COMMANDS;
 use cc_task::Kind;
 use clap::ArgMatches;
@@ -52,6 +52,7 @@ Example:
 
 pub(crate) static CALL: Row = Row {
     name: "call",
+    reader: Reader::Call,
     whole: "cclib call",
     about: "Run a unit of a library on input words",
     words: &[
@@ -71,6 +72,7 @@ pub(crate) static CALL: Row = Row {
 
 pub(crate) static DIFF: Row = Row {
     name: "diff",
+    reader: Reader::Diff,
     whole: "cclib diff",
     about: "Show how two libraries differ",
     words: &[
@@ -82,6 +84,7 @@ pub(crate) static DIFF: Row = Row {
 
 pub(crate) static LOG: Row = Row {
     name: "log",
+    reader: Reader::Log,
     whole: "cclib log",
     about: "Print what was added, replaced and withdrawn since the last compaction",
     words: &[
@@ -97,6 +100,7 @@ pub(crate) static LOG: Row = Row {
 
 pub(crate) static RESTORE: Row = Row {
     name: "restore",
+    reader: Reader::Restore,
     whole: "cclib restore",
     about: "Put back what a unit of a library was",
     words: &[
@@ -113,6 +117,7 @@ pub(crate) static RESTORE: Row = Row {
 
 pub(crate) static COPY: Row = Row {
     name: "copy",
+    reader: Reader::Copy,
     whole: "cclib copy",
     about: "Copy the units of a library into a new one, or some of them",
     words: &[

@@ -6,7 +6,8 @@
 //! - `row`: a command as a row of a table, from which its parser is made; `commands`: the table.
 //! - `program`, `watch`, `unit`, `keeping`, `library`, `spool`: the rows, each with what its words ask for. `given` has the words that several
 //!   commands share, `files` the files of a program, `json` the option for JSON, `numbers` the numbers.
-//! - `command_line` reads a command line, `refused` has the errors for words that break a rule, `telling` prints them.
+//! - `command_line` reads a command line, `refused` has the errors for words that break a rule, `tips` what a person may have meant,
+//!   `telling` prints them.
 //!
 //! The crate exports `read_invocation`, `line`, `read_or_tell`, `refused_bytes`, `tell_bytes`, their types (above all `Work`, with what
 //! each kind of work needs), and the definitions that their contracts name (`specs/`).
@@ -25,6 +26,7 @@ mod refused;
 mod row;
 mod spool;
 mod telling;
+mod tips;
 mod unit;
 mod watch;
 

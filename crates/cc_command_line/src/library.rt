@@ -8,14 +8,14 @@ use crate::given::{
     ALL_CHECKED, DISK, FORMAT, WORKERS, area_if_given, kind_of, path_of, workers_of,
 };
 use crate::refused::Refused;
-use crate::row::{Form, Row, Word};
+use crate::row::{Form, Reader, Row, Word};
 use cc_task::Kind;
 use clap::ArgMatches;
 use std::alloc::Global;
 
 // ORDER ScriptCommand
 // What a person reads below the options of the command.
-const LIBRARY_HELP: &str = "\
+pub(crate) const LIBRARY_HELP: &str = "\
 The script comes on standard input, one command a line:
   add NAME LEN       compile the LEN bytes that follow the line, and keep them as the unit NAME
   replace NAME LEN   the same in place of the unit that NAME has
@@ -32,6 +32,7 @@ Example, with a new file:
 
 pub(crate) static LIBRARY: Row = Row {
     name: "library",
+    reader: Reader::Library,
     whole: "cclib library",
     about: "Keep compiled programs in a file that survives a power cut, by the commands of a script",
     words: &[

@@ -6,16 +6,18 @@ ghost use Rattle.cc_command_line.specs.Work.{IsAllowed};
 use crate::command_line::Work;
 use crate::files::{FILE, FILES};
 use crate::given::{
-    CHECKED, COUNT, INPUT, INSTRUCTIONS, STEPS, input_of, kind_of, steps_of, text_if_given,
+    CHECKED, COUNT, INPUT, INSTRUCTIONS, STEPS, UNEXPECTED, expect_no_more, input_of, kind_of,
+    steps_of, text_if_given,
 };
 use crate::refused::Refused;
-use crate::row::{Form, Row, Word};
+use crate::row::{Form, Reader, Row, Word};
 use cc_task::Task;
 use clap::ArgMatches;
 use std::alloc::Global;
 
 pub(crate) static CHECK: Row = Row {
     name: "check",
+    reader: Reader::Check,
     whole: "cclib check",
     about: "Say `ok`, or the first fault of the program",
     words: &[FILE, FILES],
@@ -24,6 +26,7 @@ pub(crate) static CHECK: Row = Row {
 
 pub(crate) static INTERPRET: Row = Row {
     name: "interpret",
+    reader: Reader::Interpret,
     whole: "cclib interpret",
     about: "Print the words that the program writes, and how it ends, by the definition of C",
     words: &[STEPS, INPUT, FILE, COUNT],
@@ -32,6 +35,7 @@ pub(crate) static INTERPRET: Row = Row {
 
 pub(crate) static RUN: Row = Row {
     name: "run",
+    reader: Reader::Run,
     whole: "cclib run",
     about: "Compile the program and run its image: print the words that it writes, and how it ends",
     words: &[INSTRUCTIONS, INPUT, FILE, CHECKED, COUNT],
@@ -40,14 +44,16 @@ pub(crate) static RUN: Row = Row {
 
 pub(crate) static ASM: Row = Row {
     name: "asm",
+    reader: Reader::Asm,
     whole: "cclib asm",
     about: "Compile the program and list its image",
-    words: &[FILE, CHECKED],
+    words: &[UNEXPECTED, FILE, CHECKED],
     help: "The program comes on standard input, or in files: cclib asm -f main.c -f table.c",
 };
 
 pub(crate) static STAGES: Row = Row {
     name: "stages",
+    reader: Reader::Stages,
     whole: "cclib stages",
     about: "Show what the compiler makes of each function, stage by stage",
     words: &[
@@ -56,6 +62,7 @@ pub(crate) static STAGES: Row = Row {
             Form::Optional,
             "The function that is shown: all, if none is given",
         ),
+        UNEXPECTED,
         CHECKED,
         FILE,
     ],
@@ -64,9 +71,10 @@ pub(crate) static STAGES: Row = Row {
 
 pub(crate) static SAFE: Row = Row {
     name: "safe",
+    reader: Reader::Safe,
     whole: "cclib safe",
     about: "Say `safe` if the program can't go wrong, whatever it reads; else where it may",
-    words: &[FILE],
+    words: &[UNEXPECTED, FILE],
     help: "The program comes on standard input, or in files: cclib safe -f main.c -f table.c",
 };
 
@@ -97,10 +105,27 @@ pub(crate) fn run_of(alloc: Global, given: &ArgMatches<'_>) -> Result<Work, Refu
     }))
 }
 
+/// What `asm` asks for.
+pub(crate) fn asm_of(given: &ArgMatches<'_>) -> Result<Work, Refused>
+    ensures { IfOk result IsAllowed }
+{
+    expect_no_more(given)?;
+    Ok(Work::One(Task::Asm(kind_of(given))))
+}
+
+/// What `safe` asks for.
+pub(crate) fn safe_of(given: &ArgMatches<'_>) -> Result<Work, Refused>
+    ensures { IfOk result IsAllowed }
+{
+    expect_no_more(given)?;
+    Ok(Work::One(Task::Safe))
+}
+
 /// What `stages` asks for.
 pub(crate) fn stages_of(alloc: Global, given: &ArgMatches<'_>) -> Result<Work, Refused>
     ensures { IfOk result IsAllowed }
 {
+    expect_no_more(given)?;
     let function = text_if_given(alloc, given, "FUNCTION")?;
     Ok(Work::Stages(kind_of(given), function))
 }

@@ -16,6 +16,9 @@ pub(crate) enum Form {
     Several,
     /// Any number of numbers.
     Numbers,
+    /// Any number of words that the command does not take. Help does not show them. They are refused with a tip, which the
+    /// parser by itself does not have.
+    Unexpected,
     /// `--NAME`
     Flag,
     /// `--NAME`, before the name of a command or after it.
@@ -38,9 +41,35 @@ pub(crate) struct Word(
     pub(crate) &'static str,
 );
 
+/// Which command a row is. `work_of` reads its words, with a case for each.
+#[derive(Clone, Copy)]
+pub(crate) enum Reader {
+    Check,
+    Interpret,
+    Run,
+    Trace,
+    Cover,
+    Asm,
+    Stages,
+    Size,
+    Safe,
+    Image,
+    Source,
+    Call,
+    Diff,
+    Log,
+    Restore,
+    Copy,
+    Library,
+    Serve,
+    Submit,
+}
+
 /// A command.
 pub(crate) struct Row {
     pub(crate) name: &'static str,
+    /// What reads the words that are given to it.
+    pub(crate) reader: Reader,
     /// The program's name, followed by the command's.
     pub(crate) whole: &'static str,
     pub(crate) about: &'static str,
@@ -61,8 +90,8 @@ fn value_of<'a>(alloc: Global, name: &'static str, value: &'static str) -> Arg<'
 }
 
 // The word for the parser, without its help.
-fn form_of<'a>(alloc: Global, name: &'static str, form: &Form) -> Arg<'a> {
-    match form {
+fn form_of<'a>(alloc: Global, name: &'static str, form: &Form) -> Result<Arg<'a>, AllocError> {
+    Ok(match form {
         Form::Optional => Arg::new(alloc, name),
         Form::Required => Arg::new(alloc, name).required(true),
         Form::Number => Arg::new(alloc, name)
@@ -72,6 +101,7 @@ fn form_of<'a>(alloc: Global, name: &'static str, form: &Form) -> Arg<'a> {
         Form::Numbers => Arg::new(alloc, name)
             .num_args(0..)
             .allow_negative_numbers(true),
+        Form::Unexpected => Arg::new(alloc, name).num_args(0..).hide(true),
         Form::Flag => flag_of(alloc, name),
         Form::Global => flag_of(alloc, name).global(true),
         Form::Value(value) => value_of(alloc, name, value),
@@ -80,16 +110,33 @@ fn form_of<'a>(alloc: Global, name: &'static str, form: &Form) -> Arg<'a> {
         Form::Values(value, letter) => value_of(alloc, name, value)
             .short(*letter)
             .action(ArgAction::Append),
+    })
+}
+
+/// This parser, which takes these words too.
+pub(crate) fn with_words<'a>(
+    alloc: Global,
+    parser: Command<'a>,
+    words: &'static [Word],
+) -> Result<Command<'a>, AllocError> {
+    let mut parser = parser;
+    for Word(name, form, help) in words {
+        let arg = match form_of(alloc, name, form) {
+            Ok(arg) => arg.help(help),
+            Err(error) => {
+                drop(parser);
+                return Err(error);
+            }
+        };
+        parser = parser.arg(arg)?;
     }
+    Ok(parser)
 }
 
 /// The parser of one command.
 pub(crate) fn command_of<'a>(alloc: Global, row: &'static Row) -> Result<Command<'a>, AllocError> {
-    let mut command = Command::new(alloc, row.name)
+    let parser = Command::new(alloc, row.name)
         .about(row.about)
         .after_help(row.help);
-    for Word(name, form, help) in row.words {
-        command = command.arg(form_of(alloc, name, form).help(help))?;
-    }
-    Ok(command)
+    with_words(alloc, parser, row.words)
 }

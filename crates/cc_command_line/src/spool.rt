@@ -10,7 +10,7 @@ use crate::given::{
     number_of, path_of, workers_of,
 };
 use crate::refused::Refused;
-use crate::row::{Form, Row, Word};
+use crate::row::{Form, Reader, Row, Word};
 use cc_task::Kind;
 use clap::ArgMatches;
 use std::alloc::{AllocError, Global};
@@ -52,7 +52,7 @@ Example:
 
 // ORDER ScriptCommand
 // What a person reads below the options of `submit`.
-const SUBMIT_HELP: &str = "\
+pub(crate) const SUBMIT_HELP: &str = "\
 Without a COMMAND the script comes on standard input. A COMMAND is one line of a script:
   add NAME           the source comes on standard input
   replace NAME       the same
@@ -78,6 +78,7 @@ Example:
 
 pub(crate) static SERVE: Row = Row {
     name: "serve",
+    reader: Reader::Serve,
     whole: "cclib serve",
     about: "Serve the scripts that others leave in a folder, many at a time, over a library in a file",
     words: &[
@@ -120,6 +121,7 @@ pub(crate) static SERVE: Row = Row {
 
 pub(crate) static SUBMIT: Row = Row {
     name: "submit",
+    reader: Reader::Submit,
     whole: "cclib submit",
     about: "Leave a script for a server, wait for its answer and print it",
     words: &[

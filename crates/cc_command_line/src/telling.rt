@@ -3,7 +3,7 @@
 ghost use Rattle.std.specs.Prelude.{IfOk};
 ghost use Rattle.cc_command_line.specs.Work.{IsAllowed};
 
-use crate::command_line::{Invocation, read_invocation, refused_bytes};
+use crate::command_line::{Invocation, Work, read_invocation, refused_bytes};
 use clap::Error;
 use clap::error::ErrorKind;
 use std::alloc::Global;
@@ -39,6 +39,27 @@ fn tell<R: Eprint + Print>(rt: &R, error: Error) -> NoRequest {
     })
 }
 
+// Whether a function may have this name.
+fn may_name_function(name: &str) -> bool {
+    name.bytes()
+        .all(|byte| byte.is_ascii_alphanumeric() || byte == b'_')
+}
+
+// Says that the program is read from standard input, if the FUNCTION of `stages` can't be a function's name: it may be meant as
+// the program's file.
+fn note_file<R: Eprint>(rt: &R, request: &Invocation) {
+    if request.is_quiet || request.is_json || !request.files.is_empty() {
+        return;
+    }
+    if let Work::Stages(_, Some(name)) = &request.work
+        && !may_name_function(name.as_str())
+    {
+        let _ = eprintln!(rt;
+            "cclib: the program is read from standard input; if '{name}' is its file, write '< {name}' or '--file {name}'"
+        );
+    }
+}
+
 /// Reads the command line as `read_invocation` does. A refusal goes to standard error; help and the version go to standard output.
 pub fn read_or_tell<'a, R: Eprint + Print, S: AsStr>(
     rt: &R,
@@ -48,7 +69,10 @@ pub fn read_or_tell<'a, R: Eprint + Print, S: AsStr>(
     ensures { IfOk result (λ request. IsAllowed request.work) }
 {
     match read_invocation(alloc, words) {
-        Ok(request) => Ok(request),
+        Ok(request) => {
+            note_file(rt, &request);
+            Ok(request)
+        }
         Err(error) => Err(tell(rt, error)),
     }
 }

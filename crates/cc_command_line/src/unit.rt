@@ -9,7 +9,7 @@ use crate::files::FILE;
 use crate::given::{Allowed, CHECKED, DISK, NAME, Unit, kind_of, number_if_given, unit_of};
 use crate::keeping::{Keeping, Measuring};
 use crate::refused::Refused;
-use crate::row::{Form, Row, Word};
+use crate::row::{Form, Reader, Row, Word};
 use cc_task::{Kind, Part, Task};
 use clap::ArgMatches;
 use std::alloc::Global;
@@ -68,6 +68,7 @@ With DISK and NAME it is a unit of a library, made again along its certificate; 
 
 pub(crate) static SIZE: Row = Row {
     name: "size",
+    reader: Reader::Size,
     whole: "cclib size",
     about: "Show how much memory an image takes: its code, its globals, and a stack that is enough",
     words: &[CHECKED, ANY_DISK, ANY_NAME, FILE],
@@ -76,6 +77,7 @@ pub(crate) static SIZE: Row = Row {
 
 pub(crate) static IMAGE: Row = Row {
     name: "image",
+    reader: Reader::Image,
     whole: "cclib image",
     about: "Compile the program and print its image as Intel HEX, or print that of a unit of a library",
     words: &[
@@ -99,6 +101,7 @@ pub(crate) static IMAGE: Row = Row {
 
 pub(crate) static SOURCE: Row = Row {
     name: "source",
+    reader: Reader::Source,
     whole: "cclib source",
     about: "Print the source of a unit of a library",
     words: &[
@@ -149,18 +152,18 @@ fn wanted_of(
     }))
 }
 
-// The rule of `image` that its words break, if they break one.
-fn broken_rule(given: &ArgMatches<'_>, is_earlier: bool) -> Option<&'static str> {
+// Refuses the words of `image` if they break a rule.
+fn keep_rules(given: &ArgMatches<'_>, is_earlier: bool) -> Result<(), Refused> {
     let has_disk = given.get_str("DISK").is_some();
     let has_name = given.get_str("NAME").is_some();
-    if has_disk && given.get_flag("size") {
-        Some(SIZE_RULE)
-    } else if has_disk && kind_of(given) == Kind::Checked {
-        Some(CHECKED_RULE)
+    if has_disk && has_name && given.get_flag("size") {
+        Err(Refused::ByCommand(SIZE_RULE))
+    } else if has_disk && has_name && kind_of(given) == Kind::Checked {
+        Err(Refused::ByCommand(CHECKED_RULE))
     } else if has_disk && !has_name || is_earlier && !has_disk {
-        Some(BOTH_RULE)
+        Err(Refused::ByWord(BOTH_RULE, "DISK"))
     } else {
-        None
+        Ok(())
     }
 }
 
@@ -169,9 +172,7 @@ pub(crate) fn image_of(alloc: Global, given: &ArgMatches<'_>) -> Result<Work, Re
     ensures { IfOk result IsAllowed }
 {
     let at = at_of(given)?;
-    if let Some(rule) = broken_rule(given, at.is_some()) {
-        return Err(Refused::ByCommand(rule));
-    }
+    keep_rules(given, at.is_some())?;
     if given.get_str("DISK").is_none() {
         let kind = kind_of(given);
         return Ok(Work::One(if given.get_flag("size") {
@@ -201,7 +202,7 @@ pub(crate) fn size_of(alloc: Global, given: &ArgMatches<'_>) -> Result<Work, Ref
         return Ok(Work::One(Task::Size(kind)));
     }
     if given.get_str("NAME").is_none() {
-        return Err(Refused::ByCommand(SIZE_BOTH_RULE));
+        return Err(Refused::ByWord(SIZE_BOTH_RULE, "DISK"));
     }
     let Unit { disk, name } = unit_of(alloc, given)?;
     Ok(Work::Keep(Keeping::Size(Measuring { disk, name, kind })))

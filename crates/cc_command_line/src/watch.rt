@@ -7,7 +7,7 @@ use crate::command_line::Work;
 use crate::files::{EMPTY_RULE, FILE};
 use crate::given::{Allowed, INPUT, STEPS, input_of, number_of, steps_of, text_if_given};
 use crate::refused::Refused;
-use crate::row::{Form, Row, Word};
+use crate::row::{Form, Reader, Row, Word};
 use clap::ArgMatches;
 use std::alloc::Global;
 
@@ -18,6 +18,7 @@ const BOTH_RULE: &str = "the input comes as WORDs or by --lines, and not by both
 
 pub(crate) static TRACE: Row = Row {
     name: "trace",
+    reader: Reader::Trace,
     whole: "cclib trace",
     about: "Run the program as `interpret` does, and print the newest things that it did",
     words: &[
@@ -35,6 +36,7 @@ pub(crate) static TRACE: Row = Row {
 
 pub(crate) static COVER: Row = Row {
     name: "cover",
+    reader: Reader::Cover,
     whole: "cclib cover",
     about: "Run the program as `interpret` does, and print how often each line was reached",
     words: &[

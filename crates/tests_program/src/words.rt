@@ -293,7 +293,7 @@ pub fn are_refused(alloc: Global, lists: &[&'static [&'static str]]) -> bool {
     right
 }
 
-static REFUSED: [&[&str]; 25] = [
+static REFUSED: [&[&str]; 28] = [
     &["cclib", "interpret", "1000000001"],
     &["cclib", "interpret", "+5"],
     &["cclib", "interpret", "-1"],
@@ -319,6 +319,9 @@ static REFUSED: [&[&str]; 25] = [
     &["cclib", "image", "units.disk", "a", "--checked"],
     &["cclib", "image", "units.disk", "a", "--size"],
     &["cclib", "check", "--checked"],
+    &["cclib", "safe", "5"],
+    &["cclib", "stages", "main", "prog.c"],
+    &["cclib", "call", "a", "b"],
 ];
 
 #[test]
@@ -361,8 +364,11 @@ fn quiet_words(rt: HostRuntime) -> Result<(), Fail> {
     each_passes(rt.alloc(), QUIET.as_slice(), asks_for_quiet)
 }
 
+const FILE_TIP: &str =
+    "\n\n  tip: the program is read from standard input; if 'prog.c' is its file, write '< prog.c' or '--file prog.c'\n\nUsage: ";
+
 // Command lines, and a part of the text that is printed for each.
-static PRINTED: [(&[&str], &str); 13] = [
+static PRINTED: [(&[&str], &str); 37] = [
     (&["cclib", "interpret", "+5"], "Usage: cclib interpret"),
     (&["cclib", "run", "+5"], "Usage: cclib run"),
     (
@@ -391,6 +397,65 @@ static PRINTED: [(&[&str], &str); 13] = [
     ),
     (&["cclib", "source", "a.disk"], "Usage: cclib source"),
     (&["cclib", "stages", "--help"], "cclib stages main <"),
+    // A word that may be the program's file, in each place for one.
+    (&["cclib", "interpret", "100", "prog.c"], FILE_TIP),
+    (&["cclib", "interpret", "100", "7", "prog.c"], FILE_TIP),
+    (&["cclib", "interpret", "prog.c"], FILE_TIP),
+    (&["cclib", "run", "prog.c"], FILE_TIP),
+    (&["cclib", "run", "100", "prog.c"], FILE_TIP),
+    (&["cclib", "trace", "prog.c", "100"], FILE_TIP),
+    (&["cclib", "trace", "100", "prog.c"], FILE_TIP),
+    (&["cclib", "cover", "prog.c"], FILE_TIP),
+    (&["cclib", "asm", "prog.c"], FILE_TIP),
+    (&["cclib", "asm", "--checked", "prog.c"], FILE_TIP),
+    (&["cclib", "safe", "prog.c"], FILE_TIP),
+    (&["cclib", "size", "prog.c"], FILE_TIP),
+    (&["cclib", "image", "prog.c"], FILE_TIP),
+    (&["cclib", "image", "--checked", "prog.c"], FILE_TIP),
+    (&["cclib", "stages", "main", "prog.c"], FILE_TIP),
+    (
+        &["cclib", "asm", "5"],
+        "unexpected argument '5' found\n\nUsage: cclib asm [OPTIONS]\n",
+    ),
+    // Lines of a script, and a file, in place of a command.
+    (
+        &["cclib", "add", "a", "16"],
+        "error: 'add' is a line of a script, and no command\n\n  tip: { echo add NAME $(wc -c < FILE); cat FILE; } | cclib library DISK\n  tip: with a server: cclib submit FOLDER add NAME\n",
+    ),
+    (
+        &["cclib", "replace"],
+        "tip: { echo replace NAME $(wc -c < FILE); cat FILE; } |",
+    ),
+    (&["cclib", "list"], "tip: echo list | cclib library DISK\n"),
+    (
+        &["cclib", "--json", "withdraw", "a"],
+        "tip: echo withdraw NAME |",
+    ),
+    (
+        &["cclib", "audit", "a.disk"],
+        "tip: echo audit | cclib library DISK\n",
+    ),
+    (&["cclib", "compact"], "tip: echo compact |"),
+    (
+        &["cclib", "space"],
+        "'space' is a line of a script, and no command\n\n  tip: with a server: cclib submit FOLDER space\n",
+    ),
+    (
+        &["cclib", "prog.c"],
+        "tip: a command comes first: cclib check prog.c\n",
+    ),
+];
+
+// Command lines whose refusal has nothing to say about a file.
+static PLAIN: [&[&str]; 8] = [
+    &["cclib", "run", "5", "-1"],
+    &["cclib", "run", "5", "4294967296"],
+    &["cclib", "call", "a.disk", "b", "5", "prog.c"],
+    &["cclib", "trace", "5", "--last", "none"],
+    &["cclib", "image", "units.disk", "a", "--checked"],
+    &["cclib", "restore", "a.disk", "b", "none"],
+    &["cclib", "submit", "spool", "list", "--wait", "none"],
+    &["cclib", "library", "a.disk", "prog.c"],
 ];
 
 /// What is printed for a command line that asks for nothing to be done, with the exit status.
@@ -423,6 +488,18 @@ fn prints(alloc: Global, row: &(&'static [&'static str], &'static str)) -> Resul
 #[test]
 fn printed_texts(rt: HostRuntime) -> Result<(), Fail> {
     each_passes(rt.alloc(), PRINTED.as_slice(), prints)
+}
+
+fn is_plain(alloc: Global, words: &&'static [&'static str]) -> Result<bool, Fail> {
+    match printed(alloc, words) {
+        Some((status, text)) => Ok(status == 2 && !text.as_str().contains("tip: the program")),
+        None => Ok(false),
+    }
+}
+
+#[test]
+fn plain_refusals(rt: HostRuntime) -> Result<(), Fail> {
+    each_passes(rt.alloc(), PLAIN.as_slice(), is_plain)
 }
 
 // Whether a quiet `check` is read; a refusal would be printed.
