@@ -2292,6 +2292,43 @@ def replace_script(place):
     all_must(wrong)
 
 
+@attack("library --format over a library with units, over other files, and with --if-new", 200)
+def format_again(place):
+    """A note says how many units are lost, and nothing else is noted; with --if-new the units are there afterwards, and a new file is made whole."""
+    note = "cclib: dropped {} of the library that disk had; `--if-new` keeps such a library\n"
+    add = f"add one {len(SUM)}\n{SUM}\n"
+    wrong = []
+
+    def check(what, script, options, wanted, notes):
+        words = [place.program, "library", "disk", "--format", "65536", *options]
+        done = subprocess.run(words, cwd=place.work, input=script, capture_output=True, text=True, timeout=60)
+        said = (done.stdout.split("\n")[:-1], done.stderr)
+        wrong.extend([f"{what}: {said}"] * (said != (wanted, notes)))
+
+    check("a new file", add, (), ["ok 1"], "")
+    check("a library with a unit", f"{add}{add.replace('one', 'two')}", (), ["ok 1", "ok 2"], note.format("1 unit"))
+    check("a library with two", "", ("--quiet",), [], "")
+    check("a library without any", add, (), ["ok 1"], "")
+    kept = "cclib: disk is there, and is opened as it is; `--format` is for a new file\n"
+    check("--if-new over a library", "list\n", ("--if-new",), ["unit one", "ok 1"], kept)
+    all_must(wrong)
+    os.remove(f"{place.work}/disk")
+    check("--if-new", add, ("--if-new",), ["ok 1"], "")
+    must(os.stat(f"{place.work}/disk").st_size == 16 + 2 * 65536, "the new file has another size")
+    wrong += ["disk.new is left"] * os.path.exists(f"{place.work}/disk.new")
+    write(f"{place.work}/disk", "no library\n", 0o600)
+    said = subprocess.run([place.program, "library", "disk", "--format", "65536", "--if-new"], cwd=place.work, input="", capture_output=True, text=True)
+    wrong += [f"--if-new over another file: {said.stdout!r}"] * (said.stdout != "fault 38 NotALibrary\n")
+    with open(f"{place.work}/disk") as file:
+        wrong += ["--if-new has written to another file"] * (file.read() != "no library\n")
+    check("another file", add, (), ["ok 1"], "")
+    with open(f"{place.work}/disk", "r+b") as file:
+        file.seek(16 + 8)
+        file.write(b"\xff" * 8)
+    check("a damaged library", add, (), ["ok 1"], "")
+    all_must(wrong)
+
+
 def named(folder, words):
     """Makes the files that a command line names: each word after the first that is neither an option nor a number."""
     for word in words[1:]:

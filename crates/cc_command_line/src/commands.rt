@@ -26,7 +26,7 @@ Examples:
   cclib size < examples/quotient.c
   cclib safe < examples/quotient.c
   cclib image < examples/quotient.c > quotient.hex
-  cclib library units.disk --format 65536 < examples/units.script
+  cclib library units.disk --format 65536 --if-new < examples/units.script
   cclib image units.disk sum > sum.hex
   cclib source units.disk sum
   cclib size units.disk sum

@@ -27,8 +27,8 @@ The script comes on standard input, one command a line:
 
 A newline follows the LEN bytes. What is answered `ok` is kept, whatever happens to the computer.
 
-Example, with a new file:
-  cclib library units.disk --format 65536 < examples/units.script";
+Example, which makes the file the first time:
+  cclib library units.disk --format 65536 --if-new < examples/units.script";
 
 pub(crate) static LIBRARY: Row = Row {
     name: "library",
@@ -41,6 +41,11 @@ pub(crate) static LIBRARY: Row = Row {
             FORMAT,
             Form::Value("AREA"),
             "Make the file anew, with room for AREA bytes of records: 64 to 1073741824. What it had is lost",
+        ),
+        Word(
+            "if-new",
+            Form::FlagWith(FORMAT),
+            "With --format: if the file is there, open it as it is",
         ),
         WORKERS,
         Word(
@@ -60,6 +65,8 @@ pub struct Session {
     pub disk: String,
     /// How many bytes each of two areas has, if the file is to be made anew: 64 to 1,073,741,824.
     pub area: Option<u32>,
+    /// Whether a file that is there is opened as it is, although an area is given.
+    pub is_if_new: bool,
     /// How many threads compile: 1 to 8.
     pub workers: usize,
     /// Whether a fault among the answers makes the status 1.
@@ -78,6 +85,7 @@ pub(crate) fn library_of(alloc: Global, given: &ArgMatches<'_>) -> Result<Work, 
     Ok(Work::Library(Session {
         disk,
         area,
+        is_if_new: given.get_flag("if-new"),
         workers,
         is_strict: given.get_flag("strict"),
         kind: kind_of(given),

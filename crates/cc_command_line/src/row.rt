@@ -21,6 +21,8 @@ pub(crate) enum Form {
     Unexpected,
     /// `--NAME`
     Flag,
+    /// `--NAME`, which goes only with the option of this name.
+    FlagWith(&'static str),
     /// `--NAME`, before the name of a command or after it.
     Global,
     /// `--NAME VALUE`, with the name by which help calls the value.
@@ -103,6 +105,7 @@ fn form_of<'a>(alloc: Global, name: &'static str, form: &Form) -> Result<Arg<'a>
             .allow_negative_numbers(true),
         Form::Unexpected => Arg::new(alloc, name).num_args(0..).hide(true),
         Form::Flag => flag_of(alloc, name),
+        Form::FlagWith(other) => flag_of(alloc, name).requires_arg(other)?,
         Form::Global => flag_of(alloc, name).global(true),
         Form::Value(value) => value_of(alloc, name, value),
         Form::RequiredValue(value) => value_of(alloc, name, value).required(true),

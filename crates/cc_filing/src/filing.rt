@@ -3,10 +3,12 @@
 ghost use Rattle.std.specs.Prelude.{◌≡◌};
 
 use crate::device::{NoDisk, is_prepared, may_overwrite};
+use crate::folder::word;
 use cc_answers::explain_words;
+use cc_command_line::Session;
 use cc_disk::FileDisk;
 use cc_journal::format;
-use cc_library::LibraryFault;
+use cc_library::{Library, LibraryFault};
 use cc_tasks::PartFault;
 use std::fs::{self, File};
 use std::io::{self, Write};
@@ -160,6 +162,61 @@ pub fn disk_to_serve<E: Write>(
             Err(NoDisk::Refused(LibraryFault::DiskFault))
         }
     }
+}
+
+// How many units the library in a file has. 0 if the file can't be read or is damaged, and if it is no library. Nothing is written.
+fn count_units(files: &HostRuntime, path: &str) -> usize {
+    let Ok(disk) = FileDisk::open(files, path) else {
+        return 0;
+    };
+    match Library::open(files.alloc(), disk) {
+        Ok(library) => {
+            let names = library.list(files.alloc());
+            drop(library);
+            match names {
+                Ok(names) => names.len(),
+                Err(_) => 0,
+            }
+        }
+        Err((_, disk)) => {
+            drop(disk);
+            0
+        }
+    }
+}
+
+// Reports how many units were lost with the library that a file had, if any were.
+fn tell_dropped<E: Write>(path: &str, units: usize, told: &mut E) -> io::Result<()> {
+    if units > 0 {
+        let dropped = word(units as u64, "unit", "units");
+        writeln!(
+            told,
+            "cclib: dropped {units} {dropped} of the library that {path} had; `--if-new` keeps such a library"
+        )?;
+    }
+    told.flush()
+}
+
+/// The disk on the file of a session. If an area is given, the file is made anew and formatted, and a note says how many units
+/// of an earlier library are lost with it; with `--if-new` it is instead what a server's disk is (`disk_to_serve`).
+pub fn disk_of_session<E: Write>(
+    files: &HostRuntime,
+    asked: &Session,
+    is_quiet: bool,
+    told: &mut E,
+) -> Result<FileDisk, NoDisk> {
+    let path = asked.disk.as_str();
+    if asked.is_if_new {
+        return disk_to_serve(files, path, asked.area, told);
+    }
+    let units = if asked.area.is_some() && !is_quiet {
+        count_units(files, path)
+    } else {
+        0
+    };
+    let disk = disk_of(files, path, asked.area)?;
+    let _ = tell_dropped(path, units, told);
+    Ok(disk)
 }
 
 // Explains to a person why there is no disk.

@@ -62,8 +62,8 @@ pub fn no_folder<W: Write, E: Write>(
     1
 }
 
-// The word to use for `count` things: `one` for one thing, `more` for any other number.
-fn word(count: u64, one: &'static str, more: &'static str) -> &'static str
+/// The word to use for `count` things: `one` for one thing, `more` for any other number.
+pub(crate) fn word(count: u64, one: &'static str, more: &'static str) -> &'static str
     ensures one { count ≡ 1 → result.now ≡ one.now }
     ensures more { count ≢ 1 → result.now ≡ more.now }
 {

@@ -3,7 +3,7 @@
 //! `filing` opens the file or makes it, or explains why it can't; `device` says whether a block device in the file's place may be
 //! overwritten; `taking` prints a part of a unit in the file; `folder` takes a server's folder together with the library, and reports on
 //! them; `printing` has buffers for what a command prints. The crate knows nothing about sessions, so it is proved in parallel with
-//! `cc_session`. It exports `disk_of`, `library_disk`, `no_disk`, `NoDisk`, `take_out_of_file` and `buffers`, and what takes a server's
+//! `cc_session`. It exports `disk_of`, `disk_of_session`, `library_disk`, `no_disk`, `NoDisk`, `take_out_of_file` and `buffers`, and what takes a server's
 //! folder, tidies it and reports on it.
 #![tactic(auto)]
 
@@ -14,7 +14,7 @@ mod printing;
 mod taking;
 
 pub use device::NoDisk;
-pub use filing::{disk_of, library_disk, name_disk, no_disk, tell_wide_disk};
+pub use filing::{disk_of, disk_of_session, library_disk, name_disk, no_disk, tell_wide_disk};
 pub use folder::{
     AnswerCounts, Keeper, NoFolder, Taken, count_all, no_folder, spools_of, take_to_serve,
     tell_generation, tell_kept,

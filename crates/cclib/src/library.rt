@@ -4,7 +4,7 @@ ghost use Rattle.std.specs.Prelude.{◌≤◌};
 
 use cc_answers::{Persons, greet};
 use cc_command_line::Session;
-use cc_filing::{buffers, disk_of, no_disk, tell_wide_disk};
+use cc_filing::{buffers, disk_of_session, no_disk, tell_wide_disk};
 use cc_session::{Gate, SessionEnd, session_and_explain};
 use cc_tasks::mode_of;
 use cc_watch::{AnswerProgress, FaultWatch};
@@ -72,7 +72,7 @@ where
         screen,
         "lines of answers",
     );
-    let disk = match disk_of(files, asked.disk.as_str(), asked.area) {
+    let disk = match disk_of_session(files, asked, persons.is_quiet, &mut told) {
         Ok(disk) => disk,
         Err(reason) => return Ok(no_disk(reason, asked.disk.as_str(), &mut writer, &mut told)),
     };

@@ -185,11 +185,23 @@ fn tasks(rt: HostRuntime) -> Result<(), Fail> {
     each_passes(rt.alloc(), TASKS.as_slice(), asks_for)
 }
 
-type Kept = (&'static [&'static str], &'static str, Option<u32>, usize);
+type Kept = (
+    &'static [&'static str],
+    &'static str,
+    Option<u32>,
+    bool,
+    usize,
+);
 
-// Command lines of `library` with the path, the room, and the number of workers.
-static LIBRARIES: [Kept; 3] = [
-    (&["cclib", "library", "units.disk"], "units.disk", None, 2),
+// Command lines of `library` with the path, the room, whether a file that is there is kept, and the number of workers.
+static LIBRARIES: [Kept; 4] = [
+    (
+        &["cclib", "library", "units.disk"],
+        "units.disk",
+        None,
+        false,
+        2,
+    ),
     (
         &[
             "cclib",
@@ -202,30 +214,46 @@ static LIBRARIES: [Kept; 3] = [
         ],
         "a",
         Some(1_073_741_824),
+        false,
         8,
     ),
     (
         &["cclib", "library", "a", "--format=64", "--workers=1"],
         "a",
         Some(64),
+        false,
         1,
+    ),
+    (
+        &["cclib", "library", "a", "--if-new", "--format", "64"],
+        "a",
+        Some(64),
+        true,
+        2,
     ),
 ];
 
 fn asks_for_library(alloc: Global, row: &Kept) -> Result<bool, Fail> {
-    let (words, path, wanted, count) = *row;
+    let (words, path, wanted, is_kept, count) = *row;
     match line(alloc, words) {
         Ok(
             Work::Library(
                 Session {
                     disk,
                     area,
+                    is_if_new,
                     workers,
                     is_strict,
                     kind: Kind::Plain,
                 },
             ),
-        ) => Ok(disk.as_str() == path && area == wanted && workers == count && !is_strict),
+        ) => Ok(
+            disk.as_str() == path
+                && area == wanted
+                && is_if_new == is_kept
+                && workers == count
+                && !is_strict,
+        ),
         other => {
             drop(other);
             Ok(false)
@@ -293,7 +321,7 @@ pub fn are_refused(alloc: Global, lists: &[&'static [&'static str]]) -> bool {
     right
 }
 
-static REFUSED: [&[&str]; 28] = [
+static REFUSED: [&[&str]; 30] = [
     &["cclib", "interpret", "1000000001"],
     &["cclib", "interpret", "+5"],
     &["cclib", "interpret", "-1"],
@@ -319,6 +347,8 @@ static REFUSED: [&[&str]; 28] = [
     &["cclib", "image", "units.disk", "a", "--checked"],
     &["cclib", "image", "units.disk", "a", "--size"],
     &["cclib", "check", "--checked"],
+    &["cclib", "library", "a", "--if-new"],
+    &["cclib", "serve", "a", "s", "--format", "64", "--if-new"],
     &["cclib", "safe", "5"],
     &["cclib", "stages", "main", "prog.c"],
     &["cclib", "call", "a", "b"],
@@ -368,7 +398,7 @@ const FILE_TIP: &str =
     "\n\n  tip: the program is read from standard input; if 'prog.c' is its file, write '< prog.c' or '--file prog.c'\n\nUsage: ";
 
 // Command lines, and a part of the text that is printed for each.
-static PRINTED: [(&[&str], &str); 37] = [
+static PRINTED: [(&[&str], &str); 38] = [
     (&["cclib", "interpret", "+5"], "Usage: cclib interpret"),
     (&["cclib", "run", "+5"], "Usage: cclib run"),
     (
@@ -387,7 +417,7 @@ static PRINTED: [(&[&str], &str); 37] = [
     (&["cclib", "check", "--help"], "--quiet"),
     (
         &["cclib", "library", "--help"],
-        "cclib library units.disk --format 65536 < examples/units.script",
+        "cclib library units.disk --format 65536 --if-new < examples/units.script",
     ),
     (&["cclib", "library", "a", "--workers", "9"], "from 1 to 8"),
     (&["cclib", "image", "a.disk"], "DISK and NAME go together"),
@@ -397,6 +427,7 @@ static PRINTED: [(&[&str], &str); 37] = [
     ),
     (&["cclib", "source", "a.disk"], "Usage: cclib source"),
     (&["cclib", "stages", "--help"], "cclib stages main <"),
+    (&["cclib", "library", "a", "--if-new"], "--format <AREA>"),
     // A word that may be the program's file, in each place for one.
     (&["cclib", "interpret", "100", "prog.c"], FILE_TIP),
     (&["cclib", "interpret", "100", "7", "prog.c"], FILE_TIP),
