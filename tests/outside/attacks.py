@@ -2354,6 +2354,145 @@ def launcher(place):
     all_must(wrong)
 
 
+# ---- 13: the log
+
+CHANGES = "".join(f"add z{it:031} 16\nint main(void){{}}\nwithdraw z{it:031}\n" for it in range(60))
+
+
+def logged(place):
+    """The lines of a server's log, the oldest first, each without its time. Each has to be whole."""
+    text = ""
+    for name in [*(f"log.{it}" for it in range(16, 0, -1)), "log"]:
+        if os.path.exists(f"{place.spool}/{name}"):
+            with open(f"{place.spool}/{name}") as file:
+                text += file.read()
+    lines = text.split("\n")
+    must(lines.pop() == "", "the log's last line is cut off")
+    wrong = [it for it in lines if not re.fullmatch(r"\d{10} (\d+|-) [ -~]+", it)]
+    must(not wrong, f"no line of a log: {wrong[:1]}")
+    return [it.split(" ", 1)[1] for it in lines]
+
+
+def is_logged(place, line, number=0):
+    """Whether the log has this line, not among its first `number`. It is written after the answer is handed over, so this waits."""
+    for _ in range(60):
+        if line in logged(place)[number:]:
+            return True
+        time.sleep(0.05)
+    return False
+
+
+def fill_but_one(path):
+    """Fills a file system with a file, except for one page."""
+    with open(path, "wb", buffering=0) as file:
+        size = 0
+        try:
+            while True:
+                size += file.write(bytes(4096))
+        except OSError:
+            file.truncate(size - 4096)
+
+
+def leave_changes(place):
+    """Leaves a script of 120 changes while the file system has room for its answer only."""
+    script = put_own(place, "mine", CHANGES)
+    os.link(script, place.file("tmp", "minekept"))
+    fill_but_one(place.file("tmp", "minefill"))
+    os.rename(script, place.file("new", "changes"))
+
+
+@attack("a script of 120 changes while FOLDER's file system has one free page, which its answer takes; then there is room again, and another change")
+def log_ended(place):
+    """Each change is in the log once there is room, and the server reports once that the log could not be written."""
+    os.mkdir(place.spool)
+    size = f"size=1m,mode=0755,uid={SERVER},gid={SERVER}"
+    if subprocess.run(["mount", "-t", "tmpfs", "-o", size, "tmpfs", place.spool], capture_output=True, check=False).returncode != 0:
+        raise NotTried("no tmpfs can be mounted here")
+    try:
+        server = place.serve("--clients", "1")
+        must(place.submit("add", "motor", script=UNIT, user=VICTIM).returncode == 0, "the unit can't be added")
+        must(refusal(STRANGER, lambda: leave_changes(place)) is None, "the stranger can't leave a script")
+        place.wait_for("done")
+        time.sleep(1)
+        lines = serve.answer(place, "changes")
+        must(len(lines) == 120 and lines[-1].startswith("ok"), f"the answer has {len(lines)} lines, the last {lines[-1:]}")
+        for name in ("minekept", "minefill"):
+            os.remove(place.file("tmp", name))
+        must(place.submit("withdraw", "motor", user=STRANGER).returncode == 0, "the unit can't be withdrawn")
+        wrong = [] if is_logged(place, f"{STRANGER} withdraw motor ok") else ["`withdraw motor` is not in the log"]
+        lines = logged(place)
+        there = sum(it.startswith(f"{STRANGER} ") and re.search(r" (add|withdraw) z\S+ (16 )?ok$", it) is not None for it in lines)
+        wrong += [f"{there} of 120 changes are in the log"] * (there != 120)
+        with open(f"{place.work}/told") as file:
+            told = [it for it in file.read().split("\n") if "can't be written" in it]
+        wrong += [f"that it can't be written is reported {len(told)} times"] * (len(told) != 1)
+        place.stop(server)
+        all_must(wrong)
+    finally:
+        subprocess.run(["umount", "-l", place.spool], check=False)
+
+
+@attack("scripts of 1,000 lines that change nothing: no commands, `list`, refused `withdraw`s, a `run`", 300)
+def log_flushed(place):
+    """Such a script has at most five lines in the log, so that it pushes nothing out; a change between such lines is there."""
+    server = place.serve()
+    must(place.submit("add", "motor", script=UNIT, user=VICTIM).returncode == 0, "the unit can't be added")
+    wrong = []
+    for line in ("z" * 120, "list", "withdraw none", "run motor 1000", "17 lines left out", "add  " + "9" * 100):
+        before = len(logged(place))
+        done = place.submit("--wait", "200", script=f"{line}\n" * 1000, user=STRANGER)
+        must(done.stdout.count("\n") >= 1000, f"`{line}`: the answer is {done.stdout[-60:]!r}")
+        place.submit("list", user=VICTIM)
+        time.sleep(0.5)
+        more = len(logged(place)) - before - 1
+        wrong += [f"1,000 lines `{line[:20]}` take {more} lines of the log"] * (more > 5)
+    nonsense = "zzz\nlist\n" * 200
+    place.submit(script=f"{nonsense}withdraw motor\n{nonsense}", user=STRANGER)
+    wrong += ["`withdraw motor` is not in the log"] * (not is_logged(place, f"{STRANGER} withdraw motor ok"))
+    lines = logged(place)
+    place.stop(server)
+    wrong += [f"the log says {lines[-1:]} of the others"] * (lines[-1:] != [f"{STRANGER} 796 lines left out"])
+    all_must(wrong)
+
+
+# Scripts that withdraw `one`, and what else they have.
+HIDING = {
+    "the last line, which has no newline": "withdraw one",
+    "a line after a `call` that asks for more steps than there may be": "call a 9999999999 13\nwithdraw one\nlist\n",
+    "a line after an `add` without a name": "add  13\nwithdraw one\nlist\n",
+    "a line after one of 129 bytes that begins like a command": f"replace {'z' * 117} 130\nwithdraw one\nlist\n",
+    "a line after an `update` whose first source does not end": "update a 1 13\nxx\nwithdraw one\nlist\n",
+}
+
+
+@attack("a `withdraw` that the log's reader of scripts might take for a source or input words")
+def log_hidden(place):
+    """Each `withdraw` that was done is in the log."""
+    server = place.serve()
+    wrong = []
+    for what, script in HIDING.items():
+        must(place.submit("add", "one", script=UNIT, user=VICTIM).returncode == 0, "the unit can't be added")
+        before = len(logged(place))
+        place.submit(script=script, user=STRANGER)
+        wrong += [f"{what}: not in the log"] * (not is_logged(place, f"{STRANGER} withdraw one ok", before))
+        must("unit one" not in place.submit("list").stdout, "the unit is not withdrawn")
+    place.stop(server)
+    all_must(wrong)
+
+
+@attack("a `run` whose answer has more than 16 MiB, so that its script is answered by 54 alone")
+def log_unanswered(place):
+    """The line is in the log, with 54."""
+    server = place.serve()
+    must(place.submit("add", "loud", script=serve.LOUD, user=STRANGER).returncode == 0, "the unit can't be added")
+    done = place.submit("--wait", "100", script="list\nrun loud 1000000000\nlist\n", user=STRANGER)
+    must(done.stdout == "fault 54 WriteFault\n", f"the answer is {done.stdout[-60:]!r}")
+    is_there = is_logged(place, f"{STRANGER} run loud 1000000000 fault 54")
+    lines = logged(place)[-2:]
+    place.stop(server)
+    must(is_there and lines[0] == f"{STRANGER} list ok", f"the log ends by {lines}")
+
+
 # ---- all of them
 
 

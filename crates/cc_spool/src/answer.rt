@@ -49,6 +49,16 @@ impl AnswerFile {
         self.words.words()
     }
 
+    // Refuses all later writes. The log has 54 for the line that was being answered.
+    fn refuse(&mut self)
+        ensures whole { self.new.is_refused ≡ true }
+    {
+        if !self.is_refused {
+            self.words.refuse();
+        }
+        self.is_refused = true;
+    }
+
     // Takes some of these bytes. An interrupted write may be tried again; after any other refusal all later writes are refused.
     fn take(&mut self, bytes: &[u8]) -> io::Result<usize>
         ensures bound { WritesAtMost result bytes.now }
@@ -57,7 +67,7 @@ impl AnswerFile {
         ensures kept { self.old.is_refused ≡ true → self.new.is_refused ≡ true }
     {
         if self.is_refused || self.left < bytes.len() as u64 {
-            self.is_refused = true;
+            self.refuse();
             return Err(io::Error::from(io::ErrorKind::FileTooLarge));
         }
         match self.writer.write(bytes) {
@@ -67,7 +77,9 @@ impl AnswerFile {
                 Ok(count)
             }
             Err(error) => {
-                self.is_refused = error.kind() != io::ErrorKind::Interrupted;
+                if error.kind() != io::ErrorKind::Interrupted {
+                    self.refuse();
+                }
                 Err(error)
             }
         }

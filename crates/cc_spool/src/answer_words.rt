@@ -8,6 +8,9 @@ const LINE_BYTES: usize = 64;
 /// The last record of an image, in Intel HEX.
 const LAST_RECORD: &[u8] = b":00000001FF";
 
+/// The number of the fault of an answer that can't be written.
+const WRITE_FAULT: u32 = 54;
+
 /// How a line was answered.
 #[derive(Clone, Copy, Debug, Drop, PartialEq, Eq)]
 pub(crate) enum Word {
@@ -96,12 +99,22 @@ impl AnswerWords {
         self.words.as_slice()
     }
 
+    // Notes how a line of the script was answered.
+    fn note(&mut self, word: Word) {
+        if self.is_whole {
+            self.is_whole = self.words.push(word).is_ok();
+        }
+    }
+
+    /// Notes that the answer to a line was refused: 54.
+    pub(crate) fn refuse(&mut self) {
+        self.note(Word::Fault(WRITE_FAULT));
+    }
+
     // A line has ended.
     fn end_line(&mut self) {
-        if let Some(word) = word_of(self.line.as_slice())
-            && self.is_whole
-        {
-            self.is_whole = self.words.push(word).is_ok();
+        if let Some(word) = word_of(self.line.as_slice()) {
+            self.note(word);
         }
         self.within = source_after(self.line.as_slice());
         self.line.clear();

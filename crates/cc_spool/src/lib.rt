@@ -8,7 +8,7 @@
 //! to, `recovery` what becomes of the files that a killed server left. `submission` says how a client leaves a script and waits
 //! for its answer, `lines` which fault the answer reports, `framing` how a source is written in it, `fault` why a folder or a
 //! script is refused. `log` records who did what: `script_file` keeps the lines of a script as it is read, `answer_words` how
-//! each was answered.
+//! each was answered, `log_text` says what of that is recorded, `unlogged` keeps it until it is written.
 //!
 //! The crate knows nothing about libraries. It uses only the history of `cc_disk`, which only contracts read. The only handles
 //! that it needs are those for files and the clock. It exports `Spool`, `MemorySpool` and `Answered`; `FolderSpool`,
@@ -31,6 +31,7 @@ mod keeping;
 mod layout;
 mod lines;
 mod log;
+mod log_text;
 mod memory;
 mod names;
 mod place;
@@ -40,6 +41,7 @@ mod rights;
 mod script_file;
 mod spool;
 mod submission;
+mod unlogged;
 
 pub use answer::AnswerFile;
 pub use board::MOST_ENTRIES;

@@ -1,20 +1,20 @@
 // Who did what, and when: a file in the folder to which only the server writes.
 //
-// A line has the time in seconds since 1970, the user who owns the script's file, a line of the script, and how that was answered.
-// Each server begins a new file before its first line, and whenever a file reaches 16 MiB; 16 old files are kept. Nothing waits
-// for the log, and nothing depends on it: if it can't be written, only this server's log ends.
+// Each server begins a new file before its first text, and whenever a file reaches 16 MiB; 16 old files are kept. Nothing waits
+// for the log, and nothing depends on it. Text that can't be written leaves no part of a line in the file; whoever has the text
+// tries again later.
 
-use crate::answer_words::Word;
-use crate::calls::{set_file_rights, write_at};
+use crate::calls::{set_file_rights, set_length, write_at};
 use crate::layout::FolderLayout;
-use crate::names::since_1970;
 use crate::refusal::Refusal;
 use std::alloc::AllocError;
-use std::fmt::Write;
 use std::fs::File;
 
 /// The name of the file. An old file has a number after this name; the newest has 1.
 const LOG: &str = "log";
+
+/// The name of a new file until the old ones have their names.
+const BEGUN: &str = "log.new";
 
 /// How many bytes a file may have, and how many old ones are kept.
 const LOG_FILE_BYTES: u64 = 16_777_216;
@@ -30,99 +30,61 @@ pub(crate) struct Log {
     // The file that this server began, and how many bytes it has.
     file: Option<File>,
     bytes: u64,
-    // Whether a write failed, after which nothing more is written.
-    is_over: bool,
+    // Whether the last write was refused. That was reported, and the file may have more bytes than those counted.
+    is_refused: bool,
 }
 
-// The name of an old file.
-fn old_name(layout: &FolderLayout, number: u32) -> Result<String, AllocError> {
-    format!(in layout.alloc; "{LOG}.{number}")
-}
-
-// Renames a file, if it exists.
-fn shift(layout: &FolderLayout, from: &str, to: &str) -> Result<(), Refusal> {
-    match layout.rename_part(from, to) {
-        Err(refusal) if !refusal.is_absent() => Err(refusal),
-        _ => Ok(()),
+// The name of the file, for 0, or of an old one.
+fn name_of(layout: &FolderLayout, number: u32) -> Result<String, AllocError> {
+    if number == 0 {
+        String::from_str(layout.alloc, LOG)
+    } else {
+        format!(in layout.alloc; "{LOG}.{number}")
     }
 }
 
-// Begins a new file; existing ones get the next number, and the oldest is dropped.
-fn begin_anew(layout: &FolderLayout) -> Result<File, Refusal> {
-    for number in (1..MOST_OLD).rev() {
-        let (from, to) = (old_name(layout, number)?, old_name(layout, number + 1)?);
-        shift(layout, from.as_str(), to.as_str())?;
-    }
-    let first = old_name(layout, 1)?;
-    shift(layout, LOG, first.as_str())?;
-    let file = layout.make_part_file(LOG)?;
-    match set_file_rights(&file, RIGHTS) {
-        Ok(()) => Ok(file),
-        Err(refusal) => {
-            drop(file);
-            Err(refusal)
+// The first number that no file has, of 0 to 15; 16 if each of these has a file.
+fn first_free(layout: &FolderLayout) -> Result<u32, Refusal> {
+    for number in 0..MOST_OLD {
+        let name = name_of(layout, number)?;
+        if !layout.has(name.as_str())? {
+            return Ok(number);
         }
     }
+    Ok(MOST_OLD)
 }
 
-// Writes a line of a script as a log shows it, with `?` for control bytes and bytes outside ASCII.
-fn shown(line: &[u8], text: &mut String) -> Result<(), AllocError> {
-    for byte in line {
-        let is_plain = b' ' <= *byte && *byte <= b'~';
-        text.push(char::from(if is_plain { *byte } else { b'?' }))?;
+// Gives each file the next number, up to the first number that is free; if none is, the oldest file is dropped. So a call that
+// follows one that was refused halfway drops no further file.
+fn make_way(layout: &FolderLayout) -> Result<(), Refusal> {
+    let free = first_free(layout)?;
+    for number in (0..free).rev() {
+        let (from, to) = (name_of(layout, number)?, name_of(layout, number + 1)?);
+        layout.rename_part(from.as_str(), to.as_str())?;
     }
     Ok(())
 }
 
-// Writes how a line was answered.
-fn say(word: Word, text: &mut String) -> Result<(), AllocError> {
-    match word {
-        Word::Ok => text.push_str("ok"),
-        Word::Fault(number) => {
-            write!(text, "fault {number}")?;
-            Ok(())
+// Gives a new file its rights and its name.
+fn enter(layout: &FolderLayout, file: &File) -> Result<(), Refusal> {
+    set_file_rights(file, RIGHTS)?;
+    make_way(layout)?;
+    layout.rename_part(BEGUN, LOG)
+}
+
+// Begins a new file. The old ones change their names only once it is there.
+fn begin_anew(layout: &FolderLayout) -> Result<File, Refusal> {
+    // A server that was killed may have left one.
+    let _ = layout.remove_part(BEGUN);
+    let file = layout.make_part_file(BEGUN)?;
+    match enter(layout, &file) {
+        Ok(()) => Ok(file),
+        Err(refusal) => {
+            drop(file);
+            let _ = layout.remove_part(BEGUN);
+            Err(refusal)
         }
-        Word::Going => text.push_str("going"),
-        Word::Exited => text.push_str("exited"),
-        Word::Trapped => text.push_str("trapped"),
-        Word::Source => text.push_str("source"),
-        Word::Image => text.push_str("image"),
     }
-}
-
-// Writes what a log says about a line.
-fn write_line(
-    seconds: u64,
-    user: u32,
-    line: &[u8],
-    word: Word,
-    text: &mut String,
-) -> Result<(), AllocError> {
-    write!(text, "{seconds} {user} ")?;
-    shown(line, text)?;
-    text.push(' ')?;
-    say(word, text)?;
-    text.push('\n')
-}
-
-/// What a log says about the lines of a script, each with how it was answered. If there are more lines than answers, or the
-/// reverse, the rest is left out.
-pub(crate) fn text_of(
-    layout: &FolderLayout,
-    user: u32,
-    lines: &[u8],
-    words: &[Word],
-) -> Result<String, Refusal> {
-    let seconds = since_1970(&layout.rt)?.as_secs();
-    let mut text = String::new(layout.alloc);
-    let mut each = lines.split(|byte| *byte == b'\n');
-    for word in words {
-        let Some(line) = each.next() else {
-            return Ok(text);
-        };
-        write_line(seconds, user, line, *word, &mut text)?;
-    }
-    Ok(text)
 }
 
 impl Log {
@@ -130,18 +92,33 @@ impl Log {
         Log {
             file: None,
             bytes: 0,
-            is_over: false,
+            is_refused: false,
         }
     }
 
-    // Appends bytes to the file.
-    fn append(&mut self, layout: &FolderLayout, text: &[u8]) -> Result<(), Refusal> {
+    // Begins a new file if no file is open, or it lacks room for these bytes.
+    fn turn_over(&mut self, layout: &FolderLayout, text: &[u8]) -> Result<(), Refusal> {
         let after = self.bytes.saturating_add(text.len() as u64);
         if self.file.is_none() || LOG_FILE_BYTES < after {
             self.file = None;
             self.file = Some(begin_anew(layout)?);
             self.bytes = 0;
         }
+        Ok(())
+    }
+
+    // Cuts off what a refused write left after the bytes that count.
+    fn cut(&self) -> Result<(), Refusal> {
+        match &self.file {
+            Some(file) if self.is_refused => set_length(file, self.bytes),
+            _ => Ok(()),
+        }
+    }
+
+    // Appends bytes to the file.
+    fn append(&mut self, layout: &FolderLayout, text: &[u8]) -> Result<(), Refusal> {
+        self.turn_over(layout, text)?;
+        self.cut()?;
         if let Some(file) = &self.file {
             write_at(file, text, self.bytes)?;
             self.bytes = self.bytes.saturating_add(text.len() as u64);
@@ -149,17 +126,27 @@ impl Log {
         Ok(())
     }
 
-    /// Writes what a log says about a script. If a write is refused, nothing more is written, and the server reports that once.
-    pub(crate) fn write(&mut self, layout: &FolderLayout, text: &[u8]) {
-        if self.is_over || text.is_empty() {
-            return;
-        }
-        if self.append(layout, text).is_err() {
-            self.is_over = true;
+    // Notes that a write was refused, and reports the first refusal since the last write that was not.
+    fn refuse(&mut self, layout: &FolderLayout) {
+        if !self.is_refused {
             let _ = eprintln!(layout.rt;
-                "cclib: {}/{LOG} can't be written: nothing more is written to it",
+                "cclib: {}/{LOG} can't be written: the server tries again until it can",
                 layout.path
             );
         }
+        self.is_refused = true;
+        let _ = self.cut();
+    }
+
+    /// Writes these whole lines. The result is whether they were written; if not, the file has no part of them, unless it can't
+    /// be cut either. The server reports the first of several refusals in a row.
+    pub(crate) fn write(&mut self, layout: &FolderLayout, text: &[u8]) -> bool {
+        let is_written = self.append(layout, text).is_ok();
+        if is_written {
+            self.is_refused = false;
+        } else {
+            self.refuse(layout);
+        }
+        is_written
     }
 }

@@ -1,12 +1,10 @@
 // The file that a script is read from, and the lines that were read, without the sources and input words that come after a
-// line.
+// line. The lines are those that a session reads: otherwise the log would have the answer to one line beside another.
 
+use cc_script::{Dialect, LINE_BYTES, ScriptCommand, command_of};
 use std::alloc::Global;
 use std::fs::File;
 use std::io::{self, Read};
-
-/// At most this many bytes of a line are kept.
-const LINE_BYTES: usize = 128;
 
 /// At most this many lines are kept: no server runs more lines of a script.
 const MOST_LINES: usize = 65_536;
@@ -29,55 +27,14 @@ enum Part {
 pub struct ScriptFile {
     file: File,
     part: Part,
-    // The line that is being read.
+    // The line that is being read, and whether it has more bytes than a command may have: then its first ones are kept.
     line: Vec<u8>,
+    is_long: bool,
     // The lines read to their end, each with a newline, and how many there are.
     lines: Vec<u8>,
     count: usize,
     // Whether all lines so far were kept.
     is_whole: bool,
-}
-
-// The number in these bytes, of 1 to 6 digits.
-fn number_of(digits: Option<&[u8]>) -> Option<u64> {
-    let digits = digits?;
-    if digits.is_empty() || digits.len() > 6 {
-        return None;
-    }
-    let mut number = 0u64;
-    for byte in digits {
-        if !byte.is_ascii_digit() {
-            return None;
-        }
-        number = number
-            .saturating_mul(10)
-            .saturating_add(u64::from(byte.saturating_sub(b'0')));
-    }
-    Some(number)
-}
-
-// How many bytes come after a line as its first part, and how many as its second part, if there are such parts. If the line is
-// not a command, the result does not matter.
-fn bytes_after(line: &[u8]) -> Option<(u64, Option<u64>)> {
-    let mut words = line.split(|byte| *byte == b' ');
-    let verb = words.next()?;
-    let _ = words.next()?;
-    let first = words.next();
-    let second = words.next();
-    if words.next().is_some() {
-        return None;
-    }
-    if verb == b"update".as_slice() {
-        return Some((number_of(first)?, Some(number_of(second)?)));
-    }
-    if verb == b"call".as_slice() {
-        return Some((number_of(second)?, None));
-    }
-    let is_change = verb == b"add".as_slice() || verb == b"replace".as_slice();
-    if is_change && second.is_none() {
-        return Some((number_of(first)?, None));
-    }
-    None
 }
 
 // A part of `count` bytes, and then one of `then` bytes, if that is given.
@@ -89,6 +46,23 @@ fn part_of(count: u64, then: Option<u64>) -> Part {
     }
 }
 
+// What comes after a line: the sources or input words of its command, as a session reads them, if it has some.
+fn part_after(line: &[u8]) -> Part {
+    match command_of(Dialect::Served, line) {
+        Some(ScriptCommand::Add { length, .. }) => part_of(length as u64, None),
+        Some(ScriptCommand::Replace { length, .. }) => part_of(length as u64, None),
+        Some(ScriptCommand::Call { length, .. }) => part_of(length as u64, None),
+        Some(
+            ScriptCommand::Update {
+                expected,
+                length,
+                ..
+            },
+        ) => part_of(expected as u64, Some(length as u64)),
+        _ => Part::Line,
+    }
+}
+
 impl ScriptFile {
     /// The state before any of the script is read.
     pub(crate) fn new(alloc: Global, file: File) -> ScriptFile {
@@ -96,6 +70,7 @@ impl ScriptFile {
             file,
             part: Part::Line,
             line: Vec::new(alloc),
+            is_long: false,
             lines: Vec::new(alloc),
             count: 0,
             is_whole: true,
@@ -125,19 +100,32 @@ impl ScriptFile {
     // A line has ended.
     fn end_line(&mut self) {
         self.keep();
-        self.part = match bytes_after(self.line.as_slice()) {
-            Some((count, then)) => part_of(count, then),
-            None => Part::Line,
+        self.part = if self.is_long {
+            Part::Line
+        } else {
+            part_after(self.line.as_slice())
         };
         self.line.clear();
+        self.is_long = false;
     }
 
     // Reads a byte of a line.
     fn take_of_line(&mut self, byte: u8) {
         if byte == b'\n' {
             self.end_line();
-        } else if self.line.len() < LINE_BYTES && self.line.push(byte).is_err() {
+        } else if LINE_BYTES <= self.line.len() {
+            self.is_long = true;
+        } else if self.line.push(byte).is_err() {
             self.is_whole = false;
+        }
+    }
+
+    // The script has ended: so has its last line, if no newline ended that.
+    fn end(&mut self) {
+        if let Part::Line = self.part
+            && !self.line.is_empty()
+        {
+            self.end_line();
         }
     }
 
@@ -160,6 +148,9 @@ impl Read for ScriptFile {
         let count = self.file.read(room)?;
         for i in 0..count {
             self.take(room[i]);
+        }
+        if count == 0 && !room.is_empty() {
+            self.end();
         }
         Ok(count)
     }

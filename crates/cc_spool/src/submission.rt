@@ -27,7 +27,8 @@ use std::io::{self, Read, Write};
 use std::thread;
 use std::time::{Duration, Instant};
 
-/// At most this many bytes of a script are sent: one more than a script may have, so that the server sees that it is too long.
+/// After this many bytes of a script no more are sent: one more than a script may have, so that the server sees that it is too
+/// long.
 const SENT_SCRIPT_BYTES: u64 = 16_777_217;
 
 /// The shortest and the longest pause between two looks for an answer, in microseconds. Each pause is a quarter longer than the one
@@ -125,7 +126,8 @@ fn pass_on<S: Read, W: Write>(
     }
 }
 
-// Copies this many bytes, or all if there are fewer, and reads their lines, in which the last fault of an answer is found.
+// Copies pieces of at most 4,096 bytes until this many bytes are copied, or all if there are fewer: the last piece may exceed
+// `most`. Reads their lines, in which the last fault of an answer is found.
 fn copy<S: Read, W: Write>(reader: &mut S, writer: &mut W, most: u64) -> Result<Lines, Side>
     ensures { Copies most (S.remaining reader.old) (S.remaining reader.new) (W.contents writer.old) (W.contents writer.new) result }
 {

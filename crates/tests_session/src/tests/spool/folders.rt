@@ -2,8 +2,8 @@
 // replaced with 54.
 
 use crate::tests::spool::helpers::{
-    End, Folder, Meanwhile, answer, answer_one, answer_read, begun, clears, counts, done, ends_so,
-    is_answered, is_soon_awaited, must, put_as_written, recovered, renumber_one, second,
+    End, Folder, Meanwhile, answer, answer_one, begun, clears, counts, done, ends_so, is_answered,
+    is_soon_awaited, must, put_as_written, recovered, renumber_one, second,
 };
 use cc_spool::{FolderLayout, FolderSpool, Recovered, Spool};
 use std::io::{self, Read, Write};
@@ -804,39 +804,4 @@ fn the_rights_of_a_folder(rt: HostRuntime) {
         must(&rt, folder.has_rights(part, *rights), part);
     }
     must(&rt, folder.end(layout, held), "its end");
-}
-
-// A script with lines of each kind, some followed by sources that look like lines, and its answer; then what the log says about
-// them.
-const LOGGED: &str =
-    "add a 16\nint main(void){}\nadd b 5\nlist\n\nlist\nrun a 5\nsource a\nhel\u{1}lo\nupdate a 1 4\nx\nrun \ncall a 9 3\n1 2\nimage a\nadd c 2\nxyz\nlist\n";
-
-const ANSWERED: &str =
-    "ok 1\nfault 5 Unexpected at 1:1\nunit a\nok 3\n7\nexited 0\nsource 5\nok 1\n\nfault 50 BadLine\nfault 60 Changed\ntrapped\n:020000040001F9\n:00000001FF\nfault 50 BadLine\n";
-
-const SAID: &str =
-    "add a 16 ok\nadd b 5 fault 5\nlist ok\nrun a 5 exited\nsource a source\nhel?lo fault 50\nupdate a 1 4 fault 60\ncall a 9 3 trapped\nimage a image\nadd c 2 fault 50\n";
-
-// The log lacks what was not answered, such as the last line of this script. The next server begins a new file.
-#[test]
-fn who_did_what(rt: HostRuntime) {
-    let path = "who_did_what.spool";
-    let folder = Folder { rt, path };
-    let (layout, held) = folder.take().expect(&rt, "a folder");
-    let mut spool = FolderSpool::new(layout, 9);
-    must(&rt, folder.write("new", "one", LOGGED), "a script");
-    must(&rt, answer_read(folder, &mut spool, ANSWERED), "its answer");
-    must(&rt, folder.has_log("log", SAID), "what was done");
-    must(&rt, folder.has_rights("log", 0o640), "its rights");
-    must(&rt, folder.write("new", "two", "compact\n"), "a second one");
-    must(&rt, answer_read(folder, &mut spool, "ok\n"), "its answer");
-    drop(spool);
-    drop(held);
-    let (layout, held) = folder.take().expect(&rt, "the folder again");
-    let mut spool = FolderSpool::new(layout, 9);
-    must(&rt, put_plain(folder), "a third one");
-    must(&rt, answer_read(folder, &mut spool, "ok 1\n"), "its answer");
-    must(&rt, folder.has_log("log", "list ok\n"), "a new file");
-    must(&rt, folder.is_there(".", "log.1"), "and the old one");
-    must(&rt, folder.end_spool(spool, held), "its end");
 }

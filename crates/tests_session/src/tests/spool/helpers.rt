@@ -385,6 +385,19 @@ pub fn answer_read(folder: Folder, spool: &mut FolderSpool, text: &str) -> bool 
     is_read && is_written
 }
 
+/// Reads the whole of the next script, once it comes, and begins to answer it with this text. Then as much is written as an answer
+/// may have, and more. The result is whether the rest is refused.
+pub fn answer_refused(folder: Folder, spool: &mut FolderSpool, text: &str) -> bool {
+    let Some((mut script, mut answer)) = begun(spool) else {
+        return false;
+    };
+    let mut bytes = Vec::new(folder.rt.alloc());
+    let is_read = script.read_to_end(&mut bytes).is_ok();
+    let is_written = answer.write_all(text.as_bytes()).is_ok() && !fill(&mut answer);
+    spool.deliver(script, answer, None);
+    is_read && is_written
+}
+
 /// Answers the scripts that wait. The result is how many they were, up to 20.
 pub fn done(folder: Folder, spool: &mut FolderSpool) -> usize {
     for count in 0..20 {
