@@ -1,5 +1,6 @@
 #!/usr/bin/env python3
-"""LTL in a certificate that somebody hostile might hand in: what the validator and an audit spend on it.
+"""LTL in a certificate that somebody hostile might hand in: what the validator and an audit spend on it. And hostile texts: what their
+explanations cost.
 
 hostile.py validate    a value that equals 495 slots, written in 1,000 blocks and in 2,000 (the goal is at most 2.5 times the time);
                        a loop of 1,000 blocks, one of which turns 495 slots (the goal is 10 seconds), for one value and for 64, and with
@@ -8,6 +9,9 @@ hostile.py validate    a value that equals 495 slots, written in 1,000 blocks an
 hostile.py audit       certificates of half a million, one million and two million bytes, with another program's image: many moves before many
                        writes, in straight code, in a loop over one value and in a loop over 64, which the validator refuses in the end.
                        Twice the bytes may take at most 2.5 times the time. The last, which takes minutes, has two rounds
+hostile.py explain     texts with twenty errors: 3,000 names and twenty that are not declared; 64 KiB of names that differ in three letters from
+                       those; 64 KiB of statements, between which are calls with a wrong count, or names that are not declared. Prints the time
+                       of `check`, which explains the errors, and how many times that of `--quiet check` it is
 
 The LTL is what the compiler makes of a text, with a slot in place of each register, and then changed; FORMATS.md has its bytes. The cost of judging a
 function once is the time of `bench judge` (from making its RTL on), and that of an audit is the time of `cclib library`, not counting their starts:
@@ -15,6 +19,7 @@ processor seconds, the least of ROUNDS rounds (3). Build the programs first (./p
 compiler is needed, for peak.c."""
 
 import os
+import random
 import struct
 import subprocess
 import sys
@@ -278,8 +283,42 @@ def audit(room):
             before = len(certificate), took
 
 
+# ---- explanations
+
+
+def declared(names, body):
+    return "".join(f"int {it};" for it in names) + f"int main(void){{{body}}}"
+
+
+def spread(wrong):
+    """64 KiB of statements, with twenty wrong ones between them."""
+    part = "a=a*3+(a-1)/7;" * 230
+    return "int f(int x){return x;}int main(void){int a;" + "".join(part + wrong(it) for it in range(20)) + "}"
+
+
+def hostile_texts():
+    letters = "abcdefghijklmnopqrstuvwxyz"
+    chance = random.Random(7)
+    words = ["".join(chance.choice(letters) for _ in range(12)) for _ in range(3020)]
+    head, tails = "q" * 9, [a + b + c for a in letters[:6] for b in letters for c in letters]
+    yield "3,000 names", declared(words[:3000], "".join(f"{it}=1;" for it in words[3000:]))
+    yield "near names", declared([head + it for it in tails[:3760]], "".join(f"{head}z{letters[it]}0=1;" for it in range(20)))
+    yield "wrong calls", spread(lambda it: "f();")
+    yield "unknown names", spread(lambda it: f"x{letters[it]}=1;")
+
+
+def explain(room):
+    for name, text in hostile_texts():
+        with open(room.text, "w") as file:
+            file.write(text)
+        took = []
+        for words in ([CCLIB, "--quiet", "check"], [CCLIB, "check"]):
+            took.append(min(room.seconds(words, text)[0] for _ in range(ROUNDS)))
+        print(f"{name}, {len(text)} bytes: {took[1]:.3f} s, {took[1] / took[0]:.1f} times that of --quiet", flush=True)
+
+
 def main():
-    kinds = {"validate": validate, "audit": audit}
+    kinds = {"validate": validate, "audit": audit, "explain": explain}
     if len(sys.argv) != 2 or sys.argv[1] not in kinds:
         sys.exit(__doc__)
     with tempfile.TemporaryDirectory() as work:

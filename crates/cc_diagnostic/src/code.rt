@@ -6,21 +6,24 @@ use cc_resolve::UnaryOperation;
 use cc_syntax::{BinaryOperator, Identifier};
 use cc_tokens::Scalar;
 
-/// An array whose element is read or written, with the name in the text, and the type of the index.
+/// An array whose element is read or written, with the name in the text, the type of the index, and its value if it is constant.
 #[derive(Clone, Copy)]
 pub struct Element<'a> {
     pub array: &'a Identifier,
     pub extent: Extent,
     pub index: Scalar,
+    pub constant: Option<u32>,
 }
 
-/// A binary operator, the offset of its token if it can go wrong, the type in which it works, and the type of its right operand.
+/// A binary operator, the offset of its token if it can go wrong, the type in which it works, and the type of its right operand, with
+/// the operand's value if it is constant.
 #[derive(Clone, Copy)]
 pub struct TypedOperator {
     pub operator: BinaryOperator,
     pub at: usize,
     pub working: Scalar,
     pub right: Scalar,
+    pub constant: Option<u32>,
 }
 
 /// One step of the replay. A jump goes to the instruction with the given number.

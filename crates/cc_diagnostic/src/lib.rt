@@ -6,7 +6,8 @@
 //! - `typing`: a tree that breaks a rule; `constant`: why an expression is not constant.
 //! - `further`: the errors after the first, found by checking a copy of the text in which the first is `mended`.
 //! - `walk`: visits a tree with the names in scope (`names`). It notes what a name denotes, finds what to warn about
-//!   (`warning`, `ends`), and writes instructions (`code`) with the places of the `operators` that can go wrong.
+//!   (`warning`, `ends`), and writes instructions (`code`) with the places of the `operators` that can go wrong, and the values of
+//!   constants (`folding`).
 //!   `cc_run_diagnostic` runs these to report on runs.
 //!
 //! The faults themselves come from the crates below. A report depends only on the text and the fault, and no promise depends on
@@ -17,6 +18,7 @@ mod code;
 mod constant;
 mod declarations;
 mod ends;
+mod folding;
 mod further;
 mod mended;
 mod names;
@@ -29,6 +31,7 @@ pub use cc_syntax_diagnostic::{
     Diagnostic, MessagePart, Related, message, near_name, of_name, of_syntax,
 };
 pub use code::{Bytecode, Element, Function, Instruction, TypedOperator};
+pub use folding::{binary_word, unary_word};
 pub use further::further_of_typing;
 pub use typing::of_typing;
 pub use walk::code_of;

@@ -5,7 +5,7 @@
 // each byte of the text keeps its offset.
 
 use super::walk::Use;
-use cc_tokens::{SyntaxFault, Token, tokens};
+use cc_tokens::{MOST_BYTES, SyntaxFault, Token, tokens};
 use std::alloc::{AllocError, Global};
 
 /// The letters with which a new name may begin.
@@ -24,6 +24,19 @@ pub struct Mended {
 // A word without its first letter.
 fn tail(word: &[u8]) -> &[u8] {
     word.get(1..).unwrap_or(b"")
+}
+
+// What follows the first letter in the declaration of a word that its use requires.
+fn declaration(word: &[u8], done: Use) -> [&[u8]; 4] {
+    let (open, parameters, close): (&[u8], &[u8], &[u8]) = match done {
+        Use::Called(count) => {
+            let length = count.saturating_mul(6).saturating_sub(1);
+            (b"(", PARAMETERS.get(..length).unwrap_or(PARAMETERS), b"){}")
+        }
+        Use::Indexed => (b"[1];", b"", b""),
+        _ => (b";", b"", b""),
+    };
+    [tail(word), open, parameters, close]
 }
 
 // The first token after an offset.
@@ -48,6 +61,19 @@ impl Mended {
     /// How many bytes precede the text.
     pub fn shift(&self) -> usize {
         self.declared.len()
+    }
+
+    /// Whether the copy stays within the limit of bytes if one more name is declared in the way that its use requires.
+    pub fn has_room(&self, word: &[u8], done: Use) -> bool {
+        let mut length = self
+            .declared
+            .len()
+            .saturating_add(self.text.len())
+            .saturating_add(5);
+        for part in declaration(word, done) {
+            length = length.saturating_add(part.len());
+        }
+        length <= MOST_BYTES
     }
 
     /// The declarations, followed by the text.
@@ -93,27 +119,37 @@ impl Mended {
         }
     }
 
+    // The bytes of a token.
+    fn bytes(&self, token: Token) -> &[u8] {
+        self.text.get(token.from..token.to).unwrap_or(b"")
+    }
+
     // Whether a token is this word with `letter` in place of its first letter.
     fn is(&self, token: Token, letter: u8, word: &[u8]) -> bool {
-        let bytes = self.text.get(token.from..token.to).unwrap_or(b"");
+        let bytes = self.bytes(token);
         bytes.first() == Some(&letter) && tail(bytes) == tail(word)
     }
 
-    // Whether this word, with `letter` in place of its first letter, occurs in the text.
-    fn has(&self, tokens: &[Token], letter: u8, word: &[u8]) -> bool {
+    // Marks each letter, by its code, that is the first one of a token that is otherwise this word.
+    fn mark_taken(&self, tokens: &[Token], word: &[u8], taken: &mut [bool]) {
         for token in tokens {
-            if self.is(*token, letter, word) {
-                return true;
+            let bytes = self.bytes(*token);
+            if let Some(first) = bytes.first()
+                && tail(bytes) == tail(word)
+                && let Some(place) = taken.get_mut(*first as usize)
+            {
+                *place = true;
             }
         }
-        false
     }
 
-    // The first of these letters with which the name does not occur in the text; the name's own letter if it occurs with each
-    // of them.
+    // The first of the letters with which the name does not occur in the text; the name's own letter if it occurs with each of
+    // them.
     fn free_letter(&self, tokens: &[Token], word: &[u8]) -> u8 {
+        let mut taken = [false; 256];
+        self.mark_taken(tokens, word, &mut taken);
         for letter in LETTERS {
-            if !self.has(tokens, *letter, word) {
+            if !taken[*letter as usize] {
                 return *letter;
             }
         }
@@ -134,18 +170,10 @@ impl Mended {
     fn declare(&mut self, letter: u8, word: &[u8], done: Use) -> Result<(), AllocError> {
         self.declared.extend_from_slice(b"int ")?;
         self.declared.push(letter)?;
-        self.declared.extend_from_slice(tail(word))?;
-        match done {
-            Use::Called(count) => {
-                let length = count.saturating_mul(6).saturating_sub(1);
-                let parameters = PARAMETERS.get(..length).unwrap_or(PARAMETERS);
-                self.declared.push(b'(')?;
-                self.declared.extend_from_slice(parameters)?;
-                self.declared.extend_from_slice(b"){}")
-            }
-            Use::Indexed => self.declared.extend_from_slice(b"[1];"),
-            _ => self.declared.extend_from_slice(b";"),
+        for part in declaration(word, done) {
+            self.declared.extend_from_slice(part)?;
         }
+        Ok(())
     }
 
     /// Mends a name that breaks a rule at the offset `at`: from there up to the offset `to` it is renamed, and the new name is

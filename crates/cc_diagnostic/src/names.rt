@@ -90,6 +90,11 @@ impl<'a> Names<'a> {
         self.standings.get(newest.number).copied()
     }
 
+    /// How many names are in scope.
+    pub fn len(&self) -> usize {
+        self.words.len()
+    }
+
     /// The name in scope that is nearest to this one, if any is near.
     pub fn near(&self, name: &[u8]) -> Option<&'a [u8]> {
         near_name(self.words.as_slice(), name)

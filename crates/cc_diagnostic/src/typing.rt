@@ -419,6 +419,8 @@ fn message_of(alloc: Global, view: &View<'_>, fault: &TypeFault) -> Result<Strin
 }
 
 /// What a walk over a unit notes at an offset.
+///
+/// Fails with `AllocError` if memory runs out.
 pub fn noted<'a>(alloc: Global, unit: &'a Unit, at: usize) -> Result<Option<Note<'a>>, AllocError> {
     let mut walk = Walk::new(alloc, Vec::new(alloc), Some(at))?;
     let walked = walk.externals(unit.externals());
@@ -483,33 +485,34 @@ fn view_of<'a>(
     view
 }
 
-// The report of a unit's fault at an offset, given what was noted there.
+// The report of a unit's fault at an offset, given what was noted there and what the unit declares at file scope.
 fn of_note<'a>(
     alloc: Global,
     unit: &'a Unit,
+    declarations: &'a [Declaration<'a>],
     note: Option<Note<'a>>,
     fault: &TypeFault,
     at: usize,
 ) -> Result<Told, AllocError> {
-    let declarations = declarations(alloc, unit.externals())?;
-    let view = view_of(unit, note, declarations.as_slice(), at);
+    let view = view_of(unit, note, declarations, at);
     Ok(Told {
         message: message_of(alloc, &view, fault)?,
         related: related(&view, fault),
     })
 }
 
-/// Makes a diagnostic for a unit's fault at an offset, given what was noted there.
+/// Makes a diagnostic for a unit's fault at an offset, given what was noted there and what the unit declares at file scope.
 ///
 /// Fails with `AllocError` if memory runs out.
 pub fn told_of<'a>(
     alloc: Global,
     unit: &'a Unit,
+    declarations: &'a [Declaration<'a>],
     note: Option<Note<'a>>,
     fault: &TypeFault,
     at: usize,
 ) -> Result<Diagnostic, AllocError> {
-    let Told { message, related } = of_note(alloc, unit, note, fault, at)?;
+    let Told { message, related } = of_note(alloc, unit, declarations, note, fault, at)?;
     let at = Some(at);
     Ok(Diagnostic {
         at,
@@ -521,7 +524,8 @@ pub fn told_of<'a>(
 // The report of a unit's fault at an offset.
 fn of_unit(alloc: Global, unit: &Unit, fault: &TypeFault, at: usize) -> Result<Told, AllocError> {
     let note = noted(alloc, unit, at)?;
-    of_note(alloc, unit, note, fault, at)
+    let declarations = declarations(alloc, unit.externals())?;
+    of_note(alloc, unit, declarations.as_slice(), note, fault, at)
 }
 
 /// Makes a diagnostic for the fault that `check` returned for a text's tree: the name, what it denotes and the place of its

@@ -13,13 +13,17 @@ mod statements;
 mod units;
 
 use super::code::{Bytecode, Element, Function, Instruction};
+use super::folding::folded;
 use super::names::{Names, Standing};
 use super::operators::operators;
 use super::warning::Warning;
-use cc_resolve::UnaryOperation;
 use cc_syntax::{Identifier, Signature, Unit};
 use std::alloc::{AllocError, Global};
 use std::mem::replace;
+
+/// No near name is looked for after more comparisons of names than this. So a text with fewer than 400 names in scope gets one for
+/// each of 20 errors, and the longest text with the most names gets one for at least the first.
+const MOST_COMPARED: usize = 8_192;
 
 /// What is done at an offset.
 #[derive(Clone, Copy)]
@@ -50,9 +54,17 @@ pub struct Note<'a> {
     pub near: Option<&'a [u8]>,
 }
 
+/// The first use of a name that denotes nothing there: the offset, the name, and what is noted.
+#[derive(Clone, Copy)]
+pub struct Stray<'a> {
+    pub at: usize,
+    pub word: &'a [u8],
+    pub note: Note<'a>,
+}
+
 /// A walk: the names in scope, how many variables the function has so far, and the function; the places of operators that can
 /// go wrong, and how many of them were taken; the offset for which a note is wanted, and the note; and what has been written.
-/// It also keeps the instruction numbers of the jumps out of loops that have no target yet.
+/// It also keeps the instruction numbers of the jumps out of loops that have no target yet, and as many strays as it has room for.
 #[derive(Drop)]
 pub struct Walk<'a> {
     names: Names<'a>,
@@ -67,8 +79,13 @@ pub struct Walk<'a> {
     pub code: Vec<Instruction<'a>>,
     pub functions: Vec<Function<'a>>,
     pub warnings: Vec<Warning<'a>>,
+    pub strays: Vec<Stray<'a>>,
+    /// At most this many strays are kept: the first ones, in the order of the text.
+    pub room: usize,
     // The offset of the first name that was used in the current statement.
     first: Option<usize>,
+    // How many names were compared to find the nearest ones.
+    compared: usize,
     // How many words the objects so far have.
     words: usize,
     // Whether memory was refused for something that was to be written.
@@ -77,7 +94,7 @@ pub struct Walk<'a> {
 
 impl<'a> Walk<'a> {
     /// Returns a walk that has not visited any external declaration yet, over a text with operators at these offsets. It will
-    /// note what is at the wanted offset.
+    /// note what is at the wanted offset, and has room for no strays.
     pub fn new(
         alloc: Global,
         operators: Vec<usize>,
@@ -98,7 +115,10 @@ impl<'a> Walk<'a> {
             code: Vec::new(alloc),
             functions: Vec::new(alloc),
             warnings: Vec::new(alloc),
+            strays: Vec::new(alloc),
+            room: 0,
             first: None,
+            compared: 0,
             words: 0,
             failed: false,
         })
@@ -116,38 +136,66 @@ impl<'a> Walk<'a> {
         }
     }
 
+    // The name in scope that is nearest to this one, if any is near and not too many were compared before.
+    fn near(&mut self, word: &[u8]) -> Option<&'a [u8]> {
+        if self.compared > MOST_COMPARED {
+            return None;
+        }
+        self.compared = self.compared.saturating_add(self.names.len());
+        self.names.near(word)
+    }
+
+    // Whether a stray with this name is kept.
+    fn has_stray(&self, word: &[u8]) -> bool {
+        self.strays.iter().any(|stray| stray.word == word)
+    }
+
+    // Keeps the use of a name that denotes nothing, if it is the first one and there is room for it.
+    fn keep_stray(&mut self, name: &'a Identifier, done: Use) {
+        let (at, word) = (name.at, name.bytes.as_slice());
+        if self.strays.len() >= self.room || self.has_stray(word) {
+            return;
+        }
+        let near = self.near(word);
+        let note = Note {
+            done,
+            standing: None,
+            inside: self.inside,
+            near,
+        };
+        self.failed |= self.strays.push(Stray { at, word, note }).is_err();
+    }
+
     // What a name that is used here denotes.
     fn look_up(&mut self, name: &'a Identifier, done: Use) -> Option<Standing<'a>> {
         let standing = self.names.find(name.bytes.as_slice());
         self.note(name.at, done, standing);
         self.first = self.first.or(Some(name.at));
-        if self.wanted == Some(name.at)
-            && standing.is_none()
-            && let Some(note) = &mut self.note
-        {
-            note.near = self.names.near(name.bytes.as_slice());
+        if standing.is_some() {
+            return standing;
         }
-        standing
+        self.keep_stray(name, done);
+        if self.wanted == Some(name.at) {
+            let near = self.near(name.bytes.as_slice());
+            if let Some(note) = &mut self.note {
+                note.near = near;
+            }
+        }
+        None
     }
 
     fn warn(&mut self, warning: Warning<'a>) {
         self.failed |= self.warnings.push(warning).is_err();
     }
 
-    // The constant that the instructions from number `start` on push, if they do nothing else.
+    // The constant that the instructions from number `start` on compute, if they do nothing else.
     fn constant_since(&self, start: usize) -> Option<u32> {
-        let count = self.code.len().saturating_sub(start);
-        match (self.code.get(start), self.code.get(start.saturating_add(1))) {
-            (Some(Instruction::Constant(word)), None) => Some(*word),
-            (Some(Instruction::Constant(word)), Some(Instruction::Unary(UnaryOperation::Negate)))
-                if count == 2 => Some(cc_words::sub(0, *word)),
-            _ => None,
-        }
+        folded(self.code.as_slice().get(start..)?)
     }
 
-    // Warns about an index if the instructions from number `start` on push it, and it is a constant outside its array.
-    fn warn_of_index(&mut self, start: usize, element: Element<'a>) {
-        if let Some(word) = self.constant_since(start)
+    // Warns about an index if it is a constant outside its array.
+    fn warn_of_index(&mut self, element: Element<'a>) {
+        if let Some(word) = element.constant
             && word as usize >= element.extent.length
         {
             self.warn(Warning::Index(element, word));

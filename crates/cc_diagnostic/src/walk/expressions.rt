@@ -156,8 +156,9 @@ impl<'a> Walk<'a> {
             Expression::Binary(operator, left, right) => {
                 let first = self.expression(left);
                 let middle = self.begin_binary(*operator);
+                let start = self.code.len();
                 let second = self.expression(right);
-                self.end_binary(*operator, middle, first, second)
+                self.end_binary(*operator, middle, start, first, second)
             }
             Expression::Conditional(test, held, other) => {
                 self.expression(test);
@@ -184,8 +185,9 @@ impl<'a> Walk<'a> {
             array: name,
             extent: extent_of(standing),
             index,
+            constant: self.constant_since(start),
         };
-        self.warn_of_index(start, element);
+        self.warn_of_index(element);
         (element, scalar_of(standing))
     }
 
@@ -205,11 +207,13 @@ impl<'a> Walk<'a> {
         }
     }
 
-    // Writes what belongs after the operands of a binary operator, which have these types. Returns the type of its value.
+    // Writes what belongs after the operands of a binary operator, which have these types. The instructions from number `start` on
+    // push the right one. Returns the type of the operator's value.
     fn end_binary(
         &mut self,
         operator: BinaryOperator,
         middle: usize,
+        start: usize,
         first: Scalar,
         second: Scalar,
     ) -> Scalar {
@@ -228,6 +232,7 @@ impl<'a> Walk<'a> {
                 at: middle,
                 working: working_type(operator, first, second),
                 right: second,
+                constant: self.constant_since(start),
             })),
         }
         binary_type(operator, first, second)
@@ -262,19 +267,21 @@ impl<'a> Walk<'a> {
             }),
             None => None,
         };
+        let start = self.code.len();
         let scalar = self.expression(right);
-        self.store(goal, applied, scalar)
+        self.store(goal, applied, start, scalar)
     }
 
     // Writes an increment or a decrement.
     fn step(&mut self, operator: StepOperator, target: &'a Target) {
         let goal = self.goal(target);
+        let start = self.code.len();
         self.emit(Instruction::Constant(1));
         let applied = match applied_operator(step_operator(operator)) {
             Some(operator) => Some(Applied { operator, at: 0 }),
             None => None,
         };
-        self.store(goal, applied, Scalar::Int)
+        self.store(goal, applied, start, Scalar::Int)
     }
 
     // The goal for a target. If the target is an element, writes the instructions that push its index.
@@ -297,16 +304,18 @@ impl<'a> Walk<'a> {
         }
     }
 
-    // Stores the newest word, whose type is `right`, in the goal. If an operator is applied, its operands are the goal's old
-    // value and that word, and its value is stored instead.
-    fn store(&mut self, goal: Goal<'a>, applied: Option<Applied>, right: Scalar) {
+    // Stores the newest word, whose type is `right`, in the goal; the instructions from number `start` on push it. If an operator
+    // is applied, its operands are the goal's old value and that word, and its value is stored instead.
+    fn store(&mut self, goal: Goal<'a>, applied: Option<Applied>, start: usize, right: Scalar) {
         if let Some(Applied { operator, at }) = applied {
+            let constant = self.constant_since(start);
             self.old_value(goal.slot);
             self.emit(Instruction::Binary(TypedOperator {
                 operator,
                 at,
                 working: working_type(operator, goal.scalar, right),
                 right,
+                constant,
             }));
         }
         self.emit(match goal.slot {

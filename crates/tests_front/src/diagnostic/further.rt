@@ -352,25 +352,66 @@ fn twenty_at_most(rt: HostRuntime) -> Result<(), Fail> {
     each_passes(rt.alloc(), MANY.as_slice(), tells_at_last)
 }
 
-// A text of this many bytes with two undeclared names.
-fn of_length(alloc: Global, length: usize) -> Result<Vec<u8>, AllocError> {
-    let mut text = Vec::from_slice(alloc, b"int main(void){x;y;}")?;
+// A text of this many bytes that begins so, with spaces after it.
+fn of_length(alloc: Global, begin: &[u8], length: usize) -> Result<Vec<u8>, AllocError> {
+    let mut text = Vec::from_slice(alloc, begin)?;
     for _ in text.len()..length {
         text.push(b' ')?;
     }
     Ok(text)
 }
 
-// How many errors are reported for the text of `length` bytes.
-fn count_of(alloc: Global, length: usize) -> Option<usize> {
-    let text = of_length(alloc, length).ok()?;
+// How many errors are reported for the text of `length` bytes that begins so.
+fn count_of(alloc: Global, begin: &[u8], length: usize) -> Option<usize> {
+    let text = of_length(alloc, begin, length).ok()?;
     let errors = errors_of(alloc, text.as_slice()).ok()?;
     Some(errors.len())
 }
 
-// To find the second error, the search puts `int A;` in front of a copy of the text.
+// To find the `break`, the search puts `int A;` in front of a copy of the text. Names that are not declared need no copy.
 #[test]
 fn a_copy_that_is_too_large(rt: HostRuntime) {
-    let counts = [count_of(rt.alloc(), 65_530), count_of(rt.alloc(), 65_531)];
-    assert!(rt; counts == [Some(2), Some(1)]);
+    let (alloc, other, names) = (
+        rt.alloc(),
+        b"int main(void){x;break;}",
+        b"int main(void){x;y;}",
+    );
+    let others = [
+        count_of(alloc, other, 65_530),
+        count_of(alloc, other, 65_531),
+    ];
+    assert!(rt; others == [Some(2), Some(1)]);
+    assert!(rt; count_of(alloc, names, 65_536) == Some(2));
+}
+
+// A text of this many bytes in which this statement is repeated this many times.
+fn with_statements(
+    alloc: Global,
+    statement: &[u8],
+    count: usize,
+    length: usize,
+) -> Result<Vec<u8>, AllocError> {
+    let mut text = Vec::from_slice(alloc, b"int main(void){")?;
+    for _ in 0..count {
+        text.extend_from_slice(statement)?;
+    }
+    text.push(b'}')?;
+    of_length(alloc, text.as_slice(), length)
+}
+
+// How many errors are reported for a text with 20 of these statements, and whether the last report is a note without a place.
+fn told_of_twenty(alloc: Global, statement: &[u8], length: usize) -> Option<(usize, bool)> {
+    let text = with_statements(alloc, statement, 20, length).ok()?;
+    let errors = errors_of(alloc, text.as_slice()).ok()?;
+    let last = errors.last()?;
+    Some((errors.len(), last.at.is_none()))
+}
+
+// The turns of the search check 131,072 bytes: 20 turns of 6,553 bytes, 19 of 6,898, two of 65,536. The first error needs none.
+#[test]
+fn as_many_turns_as_the_length_allows(rt: HostRuntime) {
+    let alloc = rt.alloc();
+    assert!(rt; told_of_twenty(alloc, b"break;", 6_553) == Some((20, false)));
+    assert!(rt; told_of_twenty(alloc, b"break;", 6_554) == Some((21, true)));
+    assert!(rt; told_of_twenty(alloc, b"break;", 65_536) == Some((4, true)));
 }
