@@ -1,7 +1,7 @@
 // Whether a program can go wrong, and at which places.
 //
 // If it cannot, that is proved. The lines about what may go wrong come from a walk over the instructions on which explanations
-// rest: in functions that need a guard, the operations whose right operand or index is not a constant that is evidently right.
+// rest: in functions that need a guard, the operations whose right operand or index is not a constant with which they are right.
 
 ghost use Rattle.std.specs.Prelude.{◌≡◌, [], true, IfOk, OnOk};
 ghost use Rattle.std.specs.Arc.{arc_value};
@@ -15,7 +15,7 @@ use crate::recursion::{bit, cyclic};
 use cc_diagnostic::{Bytecode, Element, Function, Instruction, TypedOperator, code_of};
 use cc_meaning::Cause;
 use cc_safe::{Safety, examine};
-use cc_syntax::{BinaryOperator, Place, parse, place_at};
+use cc_syntax::{BinaryOperator, Place, Scalar, parse, place_at};
 use cc_types::TypedUnit;
 use std::alloc::{AllocError, Global};
 use std::io::{self, Write};
@@ -29,23 +29,23 @@ pub struct Unsure {
     pub function: Vec<u8>,
 }
 
-// The word that an instruction pushes, if it is a constant.
-fn constant_at(code: &[Instruction<'_>], at: usize) -> Option<u32> {
-    match code.get(at)? {
-        Instruction::Constant(word) => Some(*word),
-        _ => None,
-    }
-}
-
-// Whether the right operand of an operator, pushed by the instruction before, is a constant with which it never goes wrong.
-fn is_right(code: &[Instruction<'_>], at: usize, operation: TypedOperator) -> bool {
-    let Some(word) = constant_at(code, at.saturating_sub(1)) else {
+// Whether the right operand of an operator is a constant with which it never goes wrong. The quotient of the least `int` and -1 is no
+// `int`.
+fn is_right(operation: TypedOperator) -> bool {
+    let Some(word) = operation.constant else {
         return false;
     };
     match operation.operator {
         BinaryOperator::ShiftLeft | BinaryOperator::ShiftRight => word < 32,
-        _ => word != 0 && word != u32::MAX,
+        _ => word != 0 && (word != u32::MAX || operation.working != Scalar::Int),
     }
+}
+
+// Whether an index is a constant within its array.
+fn is_fixed(element: Element<'_>) -> bool {
+    element
+        .constant
+        .is_some_and(|index| (index as usize) < element.extent.length)
 }
 
 fn cause_of(operator: BinaryOperator) -> Option<Cause> {
@@ -56,48 +56,13 @@ fn cause_of(operator: BinaryOperator) -> Option<Cause> {
     }
 }
 
-// The number that digits spell up to a `]`.
-fn number_before_bracket(digits: &[u8]) -> Option<u32> {
-    let mut number = 0u32;
-    let mut some = false;
-    for byte in digits {
-        if *byte == b']' && some {
-            return Some(number);
-        }
-        if !byte.is_ascii_digit() {
-            return None;
-        }
-        number = number
-            .checked_mul(10)?
-            .checked_add(u32::from(*byte - b'0'))?;
-        some = true;
-    }
-    None
-}
-
-// Whether the index of the element is written in the text as a number, and is within the array.
-fn is_fixed(text: &[u8], element: Element<'_>) -> bool {
-    let name = element.array.bytes.len();
-    let Some(from) = element.array.at.checked_add(name) else {
-        return false;
-    };
-    let (_, rest) = text.split_at(from.min(text.len()));
-    let Some((bracket, digits)) = rest.split_first() else {
-        return false;
-    };
-    match number_before_bracket(digits) {
-        Some(number) => *bracket == b'[' && (number as usize) < element.extent.length,
-        None => false,
-    }
-}
-
 // What may go wrong at an instruction, and at which offset of the text.
-fn risk_at(text: &[u8], code: &[Instruction<'_>], at: usize) -> Option<(Cause, usize)> {
-    match code.get(at)? {
+fn risk_of(instruction: Instruction<'_>) -> Option<(Cause, usize)> {
+    match instruction {
         Instruction::Element(element)
         | Instruction::ElementBelow(element)
         | Instruction::SetElement(element) => {
-            if is_fixed(text, *element) {
+            if is_fixed(element) {
                 None
             } else {
                 Some((Cause::Index, element.array.at))
@@ -105,7 +70,7 @@ fn risk_at(text: &[u8], code: &[Instruction<'_>], at: usize) -> Option<(Cause, u
         }
         Instruction::Binary(operation) => {
             let cause = cause_of(operation.operator)?;
-            if is_right(code, at, *operation) {
+            if is_right(operation) {
                 None
             } else {
                 Some((cause, operation.at))
@@ -149,10 +114,9 @@ fn add_places(
     code: &Bytecode<'_>,
     guarded: &[usize],
 ) -> Result<(), AllocError> {
-    let instructions = code.instructions.as_slice();
     let mut last = None;
-    for at in 0..instructions.len() {
-        let Some((cause, offset)) = risk_at(text, instructions, at) else {
+    for (at, instruction) in code.instructions.as_slice().iter().enumerate() {
+        let Some((cause, offset)) = risk_of(*instruction) else {
             continue;
         };
         let Some(owner) = owner_of(code.functions.as_slice(), at) else {
