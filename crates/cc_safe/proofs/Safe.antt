@@ -1,7 +1,7 @@
 -- What follows if no function needs a guard and there is no cycle.
-use Rattle.std.proofs.Common.{◌≡◌, ℕ, List, refl, subst}
+use Rattle.std.proofs.Common.{◌≡◌, ℕ, List, [], refl, subst, Contains, inl, inr, arith}
 use Rattle.std.proofs.Math.Logic.{∥∥₁_elim}
-use Rattle.cc_ast.specs.Tree.{Source}
+use Rattle.cc_ast.specs.Tree.{External, Source}
 use Rattle.cc_ast.specs.Parse.{SpellsText}
 use Rattle.cc_types.specs.Typed.{IsTyped}
 use Rattle.cc_types.specs.Limits.{objects}
@@ -18,7 +18,15 @@ use Rattle.cc_guard.specs.Safe.{NoneNeedsGuard, OnlyDepthIsLeft}
 use Rattle.cc_link.proofs.Constants.{constants_are_kept}
 use Rattle.cc_link.proofs.Laying.{kept_are_words, object_in}
 use Rattle.cc_link.proofs.Sizes.{kept_at}
-use Rattle.cc_safe.specs.Safe.{IsSafe}
+use Rattle.cc_safe.specs.Safe.{IsSafe, AreGuarded}
+
+-- if none of a unit's functions needs a guard, each has code that needs none
+pub none_is_guarded : (unit : List External) (numbers : List ℕ) → AreGuarded unit numbers → numbers ≡ [] → NoneNeedsGuard unit
+none_is_guarded unit numbers are empty f below =
+    elim (are.others f below) [
+      | inl has ↦ (let in_none = subst (λ (l : List ℕ). Contains l f) empty has in let lt = in_none.1 in absurd (omega (arith, lt)))
+      | inr none ↦ none
+    ]
 
 -- what the functions share before the run is a world of words
 first_world : (s : Source) → SpellsText s.text s.externals → (input : List ℕ) → AreWords input → IsWorld (objects_in s.externals) (world_of (first_shared s.externals input))

@@ -3,7 +3,7 @@
 ghost use Rattle.std.specs.Prelude.{◌≡◌, [], true, IfOk};
 ghost use Rattle.std.specs.Arc.{arc_value};
 ghost use Rattle.cc_ast.specs.Source.{source};
-ghost use Rattle.cc_safe.specs.Safe.{IsSafe};
+ghost use Rattle.cc_safe.specs.Safe.{AreGuarded, IsSafe};
 
 use crate::acyclic::is_acyclic;
 use crate::guards::guarded;
@@ -24,9 +24,11 @@ pub struct Safety {
 }
 
 /// Finds out whether a program can go wrong. If no function needs a guard and its calls have no cycle, it goes wrong on no input and at no
-/// bound on its steps. It fails only if memory runs out.
+/// bound on its steps (`safe`). The functions that need a guard are exactly those into which the guard pass puts a test (`guarded`). It
+/// fails only if memory runs out.
 pub fn examine(alloc: Global, unit: &Arc<TypedUnit>) -> Result<Safety, AllocError>
-    ensures { IfOk result (λ found. found.guarded.items ≡ [] → found.acyclic ≡ true → IsSafe (source (arc_value unit.now))) }
+    ensures safe { IfOk result (λ found. found.guarded.items ≡ [] → found.acyclic ≡ true → IsSafe (source (arc_value unit.now))) }
+    ensures guarded { IfOk result (λ found. AreGuarded (source (arc_value unit.now)).externals found.guarded.items) }
 {
     let _kept = unit.externals();
     only_depth_is_left();
