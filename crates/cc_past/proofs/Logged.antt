@@ -6,7 +6,7 @@ use Rattle.std.specs.FinMap as map
 use Rattle.std.specs.FinMap.{empty}
 use Rattle.std.proofs.lemmas.Option.{none-some, same_Some}
 use Rattle.cc_disk.specs.Images.{OnlyReads}
-use Rattle.cc_journal.specs.Format.{HasHeader, HoldsRecords, records, room_of}
+use Rattle.cc_journal.specs.Format.{HasHeader, HoldsAlone, HoldsRecords, records, room_of}
 use Rattle.cc_journal.proofs.Records.{holds_alone}
 use Rattle.cc_unit.specs.declared.unit.StoredUnit.{StoredUnit}
 use Rattle.cc_library.specs.Change.{LibraryCommand}
@@ -88,7 +88,37 @@ known_commands seen area bodies units holds stand commands has =
     let read : AreRead bodies commands = subst (λ (bs : List (List ℕ)). AreRead bs commands) same has.read in
     (one_map empty bodies units (library_of commands) stand (record { commands = commands; spelled = read.spelled; accepted = read.accepted; map_is = refl }), read)
 
+-- if a disk has the records of commands, these and the size of its areas are those of the library that was opened on it
+pub same_records : (seen : List ℕ) (area : ℕ) (bodies : List (List ℕ)) (units : Units) → HoldsRecords seen area bodies → StandFor bodies units → (commands : List LibraryCommand) (has : HasCommands seen commands)
+    → (units ≡ library_of commands) × (area ≡ has.area) × (bodies ≡ has.bodies)
+same_records seen area bodies units holds stand commands has =
+    let same = (holds_alone seen area bodies holds).alone has.area has.bodies has.holds in
+    ((known_commands seen area bodies units holds stand commands has).0, sym same.0, sym same.1)
+
 module _ {D : Type 0} (seen : D → List ℕ) (may_leave : D → List ℕ → Type 0) where
+  -- after the change, every image holds exactly the disk's records and that of the command that puts the unit, in areas of the same size
+  pub alone_on : (answer : Result (Unit {0}) LibraryFault) (H : Type 0) (before : List ℕ) (old new : View D) (name : List ℕ) (unit : StoredUnit)
+      → (H → ChangesDisk seen may_leave (putting old.units name unit) old new answer) → ChangeLeaves (putting old.units name unit) old new answer → (H → HoldsRecords (seen old.disk) old.area old.bodies)
+      → (H → (commands : List LibraryCommand) (has : HasCommands before commands) → (old.units ≡ library_of commands) × (old.area ≡ has.area) × (old.bodies ≡ has.bodies))
+      → OnOk answer (H → (commands : List LibraryCommand) (has : HasCommands before commands) → (image : List ℕ) → may_leave new.disk image
+      → HoldsAlone image has.area (has.bodies ++ body_of (putting (library_of commands) name unit) ∷ []))
+  alone_on (Err fault) H before old new name unit disk leaves holds known = tt
+  alone_on (Ok done) H before old new name unit disk leaves holds known = λ h commands has image left.
+      let same = known h commands has in
+      let command = putting old.units name unit in
+      let there = holds h in
+      let settled = ((disk h).1 there.area_byte (there.other ++ (records old.bodies ++ there.gate ∷ there.behind), there.bytes)).1 in
+      let image_is : image ≡ seen new.disk = settled image left in
+      let area_is : new.area ≡ old.area = ap (λ (v : View D). v.area) leaves in
+      let bodies_are : new.bodies ≡ old.bodies ++ body_of command ∷ [] = ap (λ (v : View D). v.bodies) leaves in
+      let there_now : HoldsRecords image new.area new.bodies = subst (λ (i : List ℕ). HoldsRecords i new.area new.bodies) (sym image_is) (disk h).0 in
+      let now : HoldsRecords image old.area (old.bodies ++ body_of command ∷ []) =
+      subst (λ (bs : List (List ℕ)). HoldsRecords image old.area bs) bodies_are (subst (λ (a : ℕ). HoldsRecords image a new.bodies) area_is there_now) in
+      let one : HoldsAlone image old.area (old.bodies ++ body_of command ∷ []) = holds_alone image old.area (old.bodies ++ body_of command ∷ []) now in
+      subst (λ (m : Units). HoldsAlone image has.area (has.bodies ++ body_of (putting m name unit) ∷ [])) same.0
+      (subst (λ (bs : List (List ℕ)). HoldsAlone image has.area (bs ++ body_of command ∷ [])) same.2
+      (subst (λ (a : ℕ). HoldsAlone image a (old.bodies ++ body_of command ∷ [])) same.1 one))
+
   -- after the change, every image has the records of the commands and of the one that puts the unit
   pub logged_on : (answer : Result (Unit {0}) LibraryFault) (H : Type 0) (before : List ℕ) (old new : View D) (name : List ℕ) (unit : StoredUnit)
       → (H → ChangesDisk seen may_leave (putting old.units name unit) old new answer) → ChangeLeaves (putting old.units name unit) old new answer → (H → HoldsRecords (seen old.disk) old.area old.bodies)

@@ -24,12 +24,15 @@ pub record StoresNone (commands : List LibraryCommand) (name : List ℕ) (number
 abbrev pub IsStoredOn : (seen name : List ℕ) (number : ℕ) → StoredUnit → Type 0
 IsStoredOn seen name number unit = (commands : List LibraryCommand) × HasCommands seen commands × IsStored commands name number unit
 
--- why there is no such unit on a disk: the library could not be opened, or the command stored no unit under the name
+-- Why there is no such unit on a disk: the library could not be opened; or it was, and the bytes are not a name, or they are one under
+-- which the command stored no unit.
 abbrev pub IsNotStoredOn : (honest : Bool) (seen : List ℕ) (before after : ℕ) (name : List ℕ) (number : ℕ) → PartFault → Type 0
 IsNotStoredOn honest seen before after name number (Library f) = OpenFaults honest seen before after f
-IsNotStoredOn honest seen before after name number BadName = is_name name ≡ false
-IsNotStoredOn honest seen before after name number Absent = IsTrue honest → (commands : List LibraryCommand) × HasCommands seen commands × StoresNone commands name number
-IsNotStoredOn honest seen before after name number OutOfMemory = Unit {0}
+IsNotStoredOn honest seen before after name number BadName =
+    (is_name name ≡ false) × (after ≡ before) × (IsTrue honest → (commands : List LibraryCommand) × HasCommands seen commands)
+IsNotStoredOn honest seen before after name number Absent =
+    (after ≡ before) × (IsTrue honest → (commands : List LibraryCommand) × HasCommands seen commands × StoresNone commands name number)
+IsNotStoredOn honest seen before after name number OutOfMemory = after ≡ before
 
 -- the bytes are this part of that unit
 abbrev pub IsPartAt : (seen name : List ℕ) (number : ℕ) → Part → (bytes : List ℕ) → Type 0

@@ -1,7 +1,7 @@
 -- What is put back into a library, and why it is not.
 use Rattle.std.specs.Prelude.{◌≡◌, ◌<◌, ◌⊎◌, ◌+◌, ℕ, Bool, IsTrue, List, [], ◌∷◌, ◌++◌, if◌then◌else◌}
 use Rattle.std.specs.FinMap.{contains_key, insert}
-use Rattle.cc_journal.specs.Format.{room_of}
+use Rattle.cc_journal.specs.Format.{HoldsAlone, room_of}
 use Rattle.cc_unit.specs.declared.unit.StoredUnit.{StoredUnit}
 use Rattle.cc_library.specs.Change.{LibraryCommand}
 use Rattle.cc_library.specs.declared.command.Change.TheVariants.{Add, Replace}
@@ -20,14 +20,15 @@ use Rattle.cc_past.specs.Past.{IsNotStoredOn, IsStored, IsStoredOn}
 abbrev pub putting : Units → (name : List ℕ) → StoredUnit → LibraryCommand
 putting units name unit = if contains_key units name then Replace name unit else Add name unit
 
--- The disk had the records of `commands`, and the one with this number stored the unit under the name. Every image now has the records
--- of exactly these commands and of the one that puts the unit: nothing is compacted. So it recovers to the map that they made, with
--- that unit under the name, and to no other map.
+-- The disk had the records of `commands`, and the one with this number stored the unit under the name. Every image now has exactly these
+-- records and that of the command that puts the unit, in areas of the size that they had: nothing is compacted. So it recovers to the map
+-- that the commands made, with that unit under the name, and to no other map.
 pub record IsRestoredBy (seen name : List ℕ) (number : ℕ) (unit : StoredUnit) (images : List ℕ → Type 0) : Type 0 where
   pub commands : List LibraryCommand
   pub has : HasCommands seen commands
   pub stored : IsStored commands name number unit
   pub logged : (image : List ℕ) → images image → HasCommands image (commands ++ putting (library_of commands) name unit ∷ [])
+  pub alone : (image : List ℕ) → images image → HoldsAlone image has.area (has.bodies ++ body_of (putting (library_of commands) name unit) ∷ [])
   pub restored : (image : List ℕ) → images image → RecoversAlone image (insert (library_of commands) name unit)
 
 -- the image could have been left before, or recovers to the earlier map, or to that map with the unit that the command stored
@@ -57,4 +58,4 @@ IsNotRestored honest seen before after name number (Library f) =
     IsNotPut honest seen before after ((unit : StoredUnit) × IsStoredOn seen name number unit × HasNoRoom seen name unit) f
 IsNotRestored honest seen before after name number BadName = IsNotStoredOn honest seen before after name number BadName
 IsNotRestored honest seen before after name number Absent = IsNotStoredOn honest seen before after name number Absent
-IsNotRestored honest seen before after name number OutOfMemory = Unit {0}
+IsNotRestored honest seen before after name number OutOfMemory = IsNotStoredOn honest seen before after name number OutOfMemory

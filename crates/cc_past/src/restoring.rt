@@ -6,7 +6,8 @@ ghost use Rattle.cc_disk.specs.Images.{LeavesOnly, OnlyReads};
 ghost use Rattle.cc_unit.specs.declared.unit.StoredUnit.{StoredUnit};
 ghost use Rattle.cc_library.specs.Change.{LibraryCommand};
 ghost use Rattle.cc_library.specs.Apply.{Units, library_of};
-ghost use Rattle.cc_library.specs.Body.{IsCommand};
+ghost use Rattle.cc_journal.specs.Format.{HoldsAlone};
+ghost use Rattle.cc_library.specs.Body.{IsCommand, body_of};
 ghost use Rattle.cc_library.specs.Recovered.{Recovers, RecoversAlone, RecoversOneOf};
 ghost use Rattle.cc_log.specs.Commands.{HasCommands};
 ghost use Rattle.cc_past.specs.Restored.{HasNoRoom, IsNotPut, IsNotRestored, IsRestoredBy, MayBeRestored, putting};
@@ -26,6 +27,10 @@ fn put<D: Disk + Drop>(alloc: Global, disk: D, stored: Stored) -> (Result<(), Li
     ensures logged { OnOk result.0 (IsTrue D.honest → (commands : List LibraryCommand) → HasCommands (D.seen disk) commands
         → IsCommand (putting (library_of commands) stored.name stored.unit) → (image : List ℕ) → D.may_leave result.1 image
         → HasCommands image (commands ++ putting (library_of commands) stored.name stored.unit ∷ [])) }
+    // Exactly that record is added, and the areas keep their size.
+    ensures alone { OnOk result.0 (IsTrue D.honest → (commands : List LibraryCommand) (has : HasCommands (D.seen disk) commands)
+        → (image : List ℕ) → D.may_leave result.1 image
+        → HoldsAlone image has.area (has.bodies ++ body_of (putting (library_of commands) stored.name stored.unit) ∷ [])) }
     ensures refused { IfErr result.0 (λ fault. IsNotPut D.honest (D.seen disk) (D.failures disk) (D.failures result.1)
         (HasNoRoom (D.seen disk) stored.name stored.unit) fault) }
     ensures untouched { IfErr result.0 (λ fault. fault ≢ LibraryFault.DiskFault → IsTrue D.honest

@@ -3,12 +3,12 @@ use Rattle.std.proofs.Common.{◌≡◌, ◌≢◌, ℕ, Bool, IsTrue, List, [],
 use Rattle.std.specs.Prelude.{if◌then◌else◌, IfErr}
 use Rattle.std.specs.FinMap as map
 use Rattle.cc_disk.specs.Images.{LeavesOnly, OnlyReads}
-use Rattle.cc_journal.specs.Format.{HoldsRecords}
+use Rattle.cc_journal.specs.Format.{HoldsAlone, HoldsRecords}
 use Rattle.cc_library.specs.Change.{LibraryCommand}
 use Rattle.cc_library.specs.declared.command.Change.TheVariants.{Add, Replace}
 use Rattle.cc_library.specs.declared.fault.LibraryFault.TheVariants.{DiskFault}
 use Rattle.cc_library.specs.Answers.{ChangeAnswers, ChangeLeaves, ChangesDisk}
-use Rattle.cc_library.specs.Body.{IsCommand}
+use Rattle.cc_library.specs.Body.{IsCommand, body_of}
 use Rattle.cc_log.specs.Commands.{HasCommands}
 use Rattle.cc_log.proofs.Reading.{of_err}
 use Rattle.cc_past.specs.Restored.{HasNoRoom, IsNotPut, putting}
@@ -16,7 +16,7 @@ use Rattle.cc_library.specs.Apply.{Units, after, library_of}
 use Rattle.cc_library.specs.Recovered.{Recovers, RecoversAlone, RecoversOneOf}
 use Rattle.cc_past.specs.internal.Steps.{MayBe}
 use Rattle.cc_past.proofs.Moments.{added, kept_as, on_ok, read_then, replaced}
-use Rattle.cc_past.proofs.Logged.{change_refused, change_untouched, known_commands, logged_on, no_room}
+use Rattle.cc_past.proofs.Logged.{alone_on, change_refused, change_untouched, known_commands, logged_on, no_room, same_records}
 use Rattle.cc_past.proofs.restoring.put.Goals.{then-contains, else-contains}
 use Rattle.cc_past.proofs.restoring.put.Goals as goal
 
@@ -85,6 +85,30 @@ returns-after-contains-clause-logged g c =
     on_ok {A = IsTrue D.honest → (commands : List LibraryCommand) → HasCommands seen commands → IsCommand (putting (library_of commands) name unit) → (image : List ℕ) → D.may_leave new.disk image
     → HasCommands image (commands ++ putting (library_of commands) name unit ∷ [])}
     (λ k h commands has can_be image left. k h commands has can_be image (subst (λ (d : g.row.D.Denot). D.may_leave d image) c.into_disk.ensures left)) answer logged
+
+pub returns-after-contains-clause-alone : goal.returns-after-contains-clause-alone
+returns-after-contains-clause-alone g c =
+    let D = g.D.Disk in
+    let l = c.in-Ok.library in
+    let new = c.change-answer.new.self in
+    let name = c.args.stored.name in
+    let unit = c.args.stored.unit in
+    let answer = c.change-answer.result in
+    let changed = c.change-answer.ensures.changed in
+    let has : c.contains.result ≡ map.contains_key l.units name = c.contains.ensures ∙ ap (λ (m : Units). map.contains_key m name) c.units.ensures in
+    let is : c.if-contains.command ≡ putting l.units name unit = elim c.if-contains.branch [
+      | then-contains w ↦ rw w.command-is (sym (ap (λ (b : Bool). if b then Replace name unit else Add name unit) (sym has ∙ w.if-contains.true)))
+      | else-contains w ↦ rw w.command-is (sym (ap (λ (b : Bool). if b then Replace name unit else Add name unit) (sym has ∙ w.if-contains.false)))
+    ] in
+    let seen = D.seen c.args.disk in
+    let there = λ (h : IsTrue D.honest). subst (λ (s : List ℕ). HoldsRecords s l.area l.bodies) (sym (c.in-Ok.ensures.reads h).same) (c.in-Ok.ensures.records h) in
+    let alone = alone_on D.seen D.may_leave answer (IsTrue D.honest) seen l new name unit
+    (λ h. subst (λ (x : LibraryCommand). ChangesDisk D.seen D.may_leave x l new answer) is (changed.disk h))
+    (subst (λ (x : LibraryCommand). ChangeLeaves x l new answer) is changed.leaves) there
+    (λ h commands has. same_records seen l.area l.bodies l.units (c.in-Ok.ensures.records h) c.in-Ok.ensures.stand commands has) in
+    on_ok {A = IsTrue D.honest → (commands : List LibraryCommand) (has : HasCommands seen commands) → (image : List ℕ) → D.may_leave new.disk image
+    → HoldsAlone image has.area (has.bodies ++ body_of (putting (library_of commands) name unit) ∷ [])}
+    (λ k h commands has image left. k h commands has image (subst (λ (d : g.row.D.Denot). D.may_leave d image) c.into_disk.ensures left)) answer alone
 
 pub returns-after-contains-clause-refused : goal.returns-after-contains-clause-refused
 returns-after-contains-clause-refused g c =

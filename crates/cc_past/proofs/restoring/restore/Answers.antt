@@ -2,7 +2,8 @@
 use Rattle.std.proofs.Common.{ℕ, List, [], ◌∷◌, ◌++◌, sym, ap, subst}
 use Rattle.std.specs.FinMap as map
 use Rattle.cc_unit.specs.declared.unit.StoredUnit.{StoredUnit}
-use Rattle.cc_library.specs.Body.{IsCommand}
+use Rattle.cc_journal.specs.Format.{HoldsAlone}
+use Rattle.cc_library.specs.Body.{IsCommand, body_of}
 use Rattle.cc_log.specs.Commands.{HasCommands}
 use Rattle.cc_tasks.specs.declared.part.PartFault.TheVariants.{Library}
 use Rattle.cc_past.specs.Past.{IsStoredOn}
@@ -23,6 +24,7 @@ returns-in-Ok-answer-clause-restored g c = λ h.
     let named = rw c.in-Ok.is at c.stored_on-found.ensures.name in
     let put = rw c.in-Ok-answer.is at c.put-answer.ensures.put in
     let logged = rw c.in-Ok-answer.is at c.put-answer.ensures.logged in
+    let alone = rw c.in-Ok-answer.is at c.put-answer.ensures.alone in
     let commands = (stored h).0 in
     let unit = c.in-Ok.stored.unit in
     let has : HasCommands (D.seen c.stored_on-found.result.1) commands = subst (λ (s : List ℕ). HasCommands s commands) (sym (c.stored_on-found.ensures.reads h).same) (stored h).1 in
@@ -35,6 +37,9 @@ returns-in-Ok-answer-clause-restored g c = λ h.
         has = (stored h).1;
         stored = (stored h).2;
         logged = λ image left. subst (λ (n : List ℕ). HasCommands image (commands ++ putting (library_of commands) n unit ∷ [])) named (logged h commands has can_be image left);
+        alone = λ image left.
+            subst (λ (s : List ℕ). (it : HasCommands s commands) → HoldsAlone image it.area (it.bodies ++ body_of (putting (library_of commands) c.args.name.now unit) ∷ [])) (c.stored_on-found.ensures.reads h).same
+            (λ it. subst (λ (n : List ℕ). HoldsAlone image it.area (it.bodies ++ body_of (putting (library_of commands) n unit) ∷ [])) named (alone h commands it image left)) (stored h).1;
         restored = λ image left. subst (λ (n : List ℕ). RecoversAlone image (map.insert (library_of commands) n c.in-Ok.stored.unit)) named (put h (library_of commands) recovers image left);
       },
     )

@@ -21,5 +21,6 @@ returns-in-Ok-clause-refused g c =
     let D = g.D.Disk in
     let read = rw c.in-Ok.is at c.commands_on-commands.ensures.commands in
     let has = λ (h : IsTrue D.honest). subst (λ (l : List LibraryCommand). HasCommands (D.seen c.args.disk) l) (sym c.as_slice.ensures.value) (read h) in
+    let sound = rw c.in-Ok.is at c.commands_on-commands.ensures.sound in
     of_err {P = λ fault. IsNotStored c.as_slice.result.now c.args.name.now c.args.number fault}
-    (λ fault why. not_stored_on D.honest (D.seen c.args.disk) _ _ c.args.name.now c.args.number c.as_slice.result.now has fault why) c.stored_among-found.result c.stored_among-found.ensures.refused
+    (λ fault why. not_stored_on D.honest (D.seen c.args.disk) _ _ c.args.name.now c.args.number c.as_slice.result.now sound has fault why) c.stored_among-found.result c.stored_among-found.ensures.refused
