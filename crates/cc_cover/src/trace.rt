@@ -1,8 +1,8 @@
 // The command `trace`: the last things that a run does.
 
-ghost use Rattle.std.specs.Prelude.{◌≡◌, ◌≤◌, IsOkAnd, OnOk};
+ghost use Rattle.std.specs.Prelude.{◌≡◌, ◌≤◌, false, IsOkAnd, OnOk};
 ghost use Rattle.std.specs.Io.KnownBytes.{Keeps};
-ghost use Rattle.cc_sources.specs.Joined.{joined};
+ghost use Rattle.cc_sources.specs.Joined.{joined, lacks_newline};
 ghost use Rattle.cc_tasks.specs.Answer.{Answers};
 ghost use Rattle.cc_cover.specs.Traced.{HasStop, IsTraced};
 ghost use Rattle.cc_cover.specs.internal.Watched.{Traces};
@@ -25,7 +25,16 @@ use std::io::{self, Write};
 pub(crate) const OTHER: &str =
     "cclib: the run that was watched is not the one of the answer: it is left out";
 
-// Writes what a run does.
+// Ends a line.
+#[tactic(auto, using(crate::proofs::Stopping::ends))]
+fn end_line(lines: &mut Vec<u8>) -> io::Result<()>
+    ensures { OnOk result (lacks_newline lines.new.items ≡ false) }
+{
+    lines.push(b'\n')?;
+    Ok(())
+}
+
+// Writes what a run does, without an end of line.
 fn write_event<W: Write>(texts: &[NamedText], event: Event<'_>, writer: &mut W) -> io::Result<()> {
     match event {
         Event::Call(at, name, arguments) => {
@@ -62,7 +71,27 @@ fn write_event<W: Write>(texts: &[NamedText], event: Event<'_>, writer: &mut W) 
             write_word(word, writer)?;
         }
     }
-    writer.write_all(b"\n")
+    Ok(())
+}
+
+// Writes a line about what a run does.
+fn write_event_line(texts: &[NamedText], event: Event<'_>, lines: &mut Vec<u8>) -> io::Result<()>
+    ensures { OnOk result (lacks_newline lines.new.items ≡ false) }
+{
+    write_event(texts, event, lines)?;
+    end_line(lines)
+}
+
+// Writes how many events were not kept, if there are any.
+fn write_forgotten(forgotten: u64, lines: &mut Vec<u8>) -> io::Result<()>
+    requires { lacks_newline lines.old.items ≡ false }
+    ensures { OnOk result (lacks_newline lines.new.items ≡ false) }
+{
+    if forgotten == 0 {
+        return Ok(());
+    }
+    write!(lines, "{forgotten} before these:")?;
+    end_line(lines)
 }
 
 // Writes a call that is open.
@@ -93,20 +122,16 @@ fn write_open_calls<W: Write>(
     Ok(())
 }
 
-// Writes the events that are kept.
-fn write_events<W: Write>(
-    texts: &[NamedText],
-    replay: &Replay<'_>,
-    writer: &mut W,
-) -> io::Result<()> {
+// Writes the events that are kept, each on a line.
+fn write_events(texts: &[NamedText], replay: &Replay<'_>, lines: &mut Vec<u8>) -> io::Result<()>
+    requires { lacks_newline lines.old.items ≡ false }
+    ensures { OnOk result (lacks_newline lines.new.items ≡ false) }
+{
     let watch = replay.watch();
-    let forgotten = watch.forgotten();
-    if forgotten > 0 {
-        writeln!(writer, "{forgotten} before these:")?;
-    }
+    write_forgotten(watch.forgotten(), lines)?;
     for number in 0..watch.kept() {
         if let Some(event) = watch.event(number) {
-            write_event(texts, event, writer)?;
+            write_event_line(texts, event, lines)?;
         }
     }
     Ok(())
@@ -127,6 +152,8 @@ struct Seen {
     before: Vec<u8>,
     after: Vec<u8>,
     is_same: bool,
+    // What comes before is empty or ends with a newline.
+    ghost begins: { lacks_newline before.items ≡ false },
 }
 
 impl Seen {
@@ -147,24 +174,29 @@ fn seen_of_unit(
     run: Run<'_>,
     outcome: &Outcome,
 ) -> io::Result<Seen> {
-    let mut seen = Seen::nothing(alloc);
     let Some(traced) = traced_unit(alloc, unit)? else {
-        return Ok(seen);
+        return Ok(Seen::nothing(alloc));
     };
     let Some(main) = traced.main() else {
-        return Ok(seen);
+        return Ok(Seen::nothing(alloc));
     };
     let globals = words_of(alloc, unit)?;
     let watch = Watch::newest(alloc, run.last)?;
     let output = Some(outcome.output.as_slice());
     let program = traced.program();
     let mut replay = Replay::new(alloc, program, run.input, output, globals, run.steps, watch);
-    if replay.run(main)? == Some(outcome.stop) {
-        write_events(texts, &replay, &mut seen.before)?;
-        write_open_calls(texts, &replay, run.last, &mut seen.after)?;
-        seen.is_same = true;
+    if replay.run(main)? != Some(outcome.stop) {
+        return Ok(Seen::nothing(alloc));
     }
-    Ok(seen)
+    let mut before = Vec::new(alloc);
+    write_events(texts, &replay, &mut before)?;
+    let mut after = Vec::new(alloc);
+    write_open_calls(texts, &replay, run.last, &mut after)?;
+    Ok(Seen {
+        before,
+        after,
+        is_same: true,
+    })
 }
 
 // What is seen of a text's run that has this outcome.
