@@ -55,10 +55,11 @@ def not_in(names, paths, is_made):
 def in_rows(text, files):
     """Yields what a row of a table names that is not in its files: the calls of its first cell, or the first one of its last cell."""
     head, at = "", 0
-    for line in text.splitlines(keepends=True):
+    lines = text.splitlines(keepends=True)
+    for line, below in zip(lines, [*lines[1:], ""]):
         cells = [(it.start(1) + at, it[1]) for it in re.finditer(r"(?<=\|)([^|]*)\|", line)]
         if line.startswith("| ") and len(cells) > 2:
-            head = cells[1][1].strip() if not files.within(at, at + len(line)) else head
+            head = cells[1][1].strip() if below.startswith("|--") else head
             paths = files.within(cells[1][0], cells[1][0] + len(cells[1][1]))
             first = NAME.search(cells[2][1]) if head == "Goes to" else None
             names = first[0] if first else cells[0][1] if head == "File" else ""
