@@ -1211,6 +1211,24 @@ def history(place):
     must(set(lines[:-1]) == {"fault 32 Absent"} and 960 <= len(lines) <= 1060, f"52 after {len(lines) - 1} lines")
 
 
+WORDS = "int main(void){int i;for(i=0;i<1000000000;i++)write_word(1);return 0;}"
+
+
+@attack("a `run` and a `call` of 150,000,000 instructions that write 20,000,000 words and more", 400)
+def run_words(place):
+    """Both are answered by 54, and take at most 100 MiB at a time."""
+    server = place.serve("--clients", "1")
+    must(place.submit("add", "words", script=WORDS, user=STRANGER).returncode == 0, "the unit can't be added")
+    for line in ("run words 150000000\n", "call words 150000000 0\n\n"):
+        done = place.submit("--wait", "300", script=line, user=STRANGER)
+        must(done.stdout == "fault 54 WriteFault\n", f"the answer is {done.stdout[-60:]!r}")
+    with open(f"/proc/{server.pid}/status") as file:
+        most = int(re.search(r"VmHWM:\s+(\d+)", file.read())[1]) >> 10
+    must(place.submit("list", user=VICTIM).returncode == 0, "the server does not go on")
+    place.stop(server)
+    must(most < 160, f"the server took {most} MiB")
+
+
 # ---- 6: what `done` keeps
 
 

@@ -1,8 +1,15 @@
 -- A `run` that was cut off, and one that was done to its end.
-use Rattle.std.proofs.Common.{◌≡◌, List, [], ℕ, Option, Some, None, Result, Ok, Err, refl, sym, subst, inr}
+use Rattle.std.proofs.Common.{◌≡◌, ◌++◌, List, [], ℕ, Option, Some, None, Result, Ok, Err, refl, sym, ap, subst, inl, inr}
 use Rattle.std.specs.Prelude.{◌⊎◌}
-use Rattle.std.specs.Io.KnownBytes.{append_known}
+use Rattle.std.specs.Io.KnownBytes.{Appends, append_known}
+use Rattle.std.proofs.KnownBytes.{Appends-trans}
+use Rattle.cc_rv32.specs.Machine.{machine_behavior}
+use Rattle.cc_rv32.specs.Simulation.{Simulation}
+use Rattle.cc_rv32.specs.declared.outcome.MachineOutcome.{MachineOutcome}
 use Rattle.cc_answers.specs.Telling.{Tells}
+use Rattle.cc_answers.specs.Text.{machine_outcome_text, words_text}
+use Rattle.cc_history.specs.declared.reply.Reply.TheVariants as reply
+use Rattle.cc_library.specs.unit.StoredUnit.{StoredUnit}
 use Rattle.cc_script.specs.Line.{ScriptRequest, Add, Replace, Withdraw, Names, Run, Compact, Audit, Image, Source, AuditOne, Update, Call, Space}
 use Rattle.cc_script.specs.Reading.{Ahead}
 use Rattle.cc_script.specs.declared.fault.ScriptFault.{ScriptFault}
@@ -13,7 +20,7 @@ use Rattle.cc_c_semantics.specs.declared.mode.Mode.{Mode}
 use Rattle.cc_service.specs.Serving.{GetAnswers}
 use Rattle.cc_service.specs.declared.fault.ServiceFault.{ServiceFault}
 use Rattle.cc_session.specs.Playing.{CutsLine, Grows, Obeys, Talk, talk}
-use Rattle.cc_session.specs.Telling.{SaysRunOn, no_memory_text, refusal_text}
+use Rattle.cc_session.specs.Telling.{SaysRunOn, behavior_text, no_memory_text, refusal_text}
 use Rattle.cc_session.specs.internal.Calls.{RunsAndTells, RunsNot, TellsRun, TellsRunNot}
 use Rattle.cc_session.specs.internal.Steps.{IsObeyed, IsObeyedNot}
 use Rattle.cc_session.proofs.Growing.{get_grows}
@@ -29,6 +36,11 @@ not_stopped {A} is = absurd (subst (λ (f : ScriptFault). IsOther f) is tt)
 
 -- ---- what is written for a unit that was found
 
+-- two texts, one written after the other, are one text
+pub told_on : {T : Type 0} (result : Result T ScriptFault) (a b c : Option (List ℕ)) (xs ys : List ℕ) → Appends a b xs → Tells b c ys result → Tells a c (xs ++ ys) result
+told_on (Ok done) a b c xs ys one two = (tt, Appends-trans a b c xs ys one two.1)
+told_on (Err fault) a b c xs ys one two = (two.0, tt)
+
 told_not : (fault : ScriptFault) (most : Option ℕ) (steps : ℕ) (receipt : Receipt) (old new : Option (List ℕ)) (text : List ℕ) → SaysRunOn [] steps (Ok receipt) text → fault ≡ WriteFault
     → TellsRunNot most steps receipt old new fault
 told_not BadLine most steps receipt old new text says is = (is, text, says)
@@ -42,6 +54,11 @@ pub told_run : {T : Type 0} (result : Result T ScriptFault) (most : Option ℕ) 
     → Tells old new text result → TellsRun most steps receipt old new result
 told_run (Ok done) most steps receipt old new text says told = (text, says, told.1)
 told_run (Err fault) most steps receipt old new text says told = told_not fault most steps receipt old new text says told.0
+
+-- what a machine has written after all steps of its run, and how it ended, is the text for a run of the unit
+pub says_machine : (words : List ℕ) (steps : ℕ) (receipt : Receipt) (unit : StoredUnit) (machine : Simulation) (outcome : MachineOutcome) → receipt.entry.reply ≡ reply.Unit unit
+    → machine_behavior unit.image words steps ≡ record { outcome = outcome; output = machine.output } → SaysRunOn words steps (Ok receipt) (words_text machine.output ++ machine_outcome_text outcome)
+says_machine words steps receipt unit machine outcome found ran = inl (record { unit = unit; found = found; text_is = ap behavior_text (sym ran) })
 
 -- ---- what is written for a name
 

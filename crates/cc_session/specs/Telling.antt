@@ -1,5 +1,5 @@
 -- How an answer of a service is written, byte for byte.
-use Rattle.std.specs.Prelude.{◌≡◌, ◌⊎◌, ◌<◌, ℕ, Bool, true, false, List, [], Result, Ok, Err, codes}
+use Rattle.std.specs.Prelude.{◌≡◌, ◌⊎◌, ◌<◌, ◌++◌, ℕ, Bool, true, false, List, [], Result, Ok, Err, codes}
 use Rattle.cc_link.specs.Text.{text_fault_place}
 use Rattle.cc_link.specs.declared.audit_answer.Audit.{Audit}
 use Rattle.cc_library.specs.unit.StoredUnit.{StoredUnit}
@@ -7,14 +7,12 @@ use Rattle.cc_library.specs.declared.space.SpaceUse.{SpaceUse}
 use Rattle.cc_history.specs.declared.entry.Receipt.{Receipt}
 use Rattle.cc_history.specs.declared.reply.Reply.{Reply}
 use Rattle.cc_history.specs.declared.reply.Reply.TheVariants.{Unit, Names}
-use Rattle.cc_rv32.specs.Machine.{machine_behavior}
+use Rattle.cc_rv32.specs.Machine.{Behavior, machine_behavior}
 use Rattle.cc_rv32.specs.declared.image.Image.{Image}
 use Rattle.cc_rv32.specs.declared.outcome.MachineOutcome.TheVariants.{Going}
 use Rattle.cc_task.specs.declared.part.Part.{Part}
-use Rattle.cc_answers.specs.Run.{IsRunOf}
-use Rattle.cc_answers.specs.Text.{fault_line, function_text, line, place_text, run_text}
+use Rattle.cc_answers.specs.Text.{fault_line, function_text, line, machine_outcome_text, place_text, words_text}
 use Rattle.cc_answers.specs.Telling.{audit_text, names_text, number_text, space_text}
-use Rattle.cc_answers.specs.declared.run.ImageRun.{ImageRun}
 use Rattle.cc_c_semantics.specs.declared.mode.Mode.{Mode}
 use Rattle.cc_service.specs.Fault.{fault_number}
 use Rattle.cc_service.specs.declared.fault.ServiceFault.{ServiceFault}
@@ -63,13 +61,15 @@ abbrev pub SaysNames : Result Receipt ServiceFault → (text : List ℕ) → Typ
 SaysNames (Ok receipt) text = (names : List (List ℕ)) × (receipt.entry.reply ≡ Names names) × (text ≡ names_text names receipt.number)
 SaysNames (Err fault) text = text ≡ refusal_text [] fault
 
+-- what a machine has written, one word on each line, and how its run ended
+abbrev pub behavior_text : Behavior → List ℕ
+behavior_text behavior = words_text behavior.output ++ machine_outcome_text behavior.outcome
+
 -- what the image of the reply's unit does on the input words within the steps
 pub record IsRunText (words : List ℕ) (steps : ℕ) (reply : Reply) (text : List ℕ) : Type 0 where
   pub unit : StoredUnit
   pub found : reply ≡ Unit unit
-  pub run : ImageRun
-  pub ran : IsRunOf unit.image steps words run
-  pub text_is : text ≡ run_text run
+  pub text_is : text ≡ behavior_text (machine_behavior unit.image words steps)
 
 -- after some of the steps, fewer than `steps`, the image is not at its end
 abbrev pub IsCutOff : Image → (steps : ℕ) → Type 0

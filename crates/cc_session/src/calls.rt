@@ -18,13 +18,11 @@ ghost use Rattle.cc_session.specs.internal.Steps.{IsDone, IsHalted, IsObeyed, Is
 use crate::auditing::{audit_found, explain_audit};
 use crate::held::Held;
 use crate::hints::Hints;
-use crate::patience::{Patience, run_in_slices};
+use crate::patience::{Patience, RunBounds, RunEnd, Unhurried, run_in_slices};
 use crate::reading::{Reading, Sent};
 use crate::showing::text_of;
-use crate::telling::{refuse, tell_change, tell_done, tell_room};
-use cc_answers::{
-    run_image, tell_audit, tell_fault, tell_names, tell_no_memory, tell_ok, tell_run, tell_text,
-};
+use crate::telling::{refuse, tell_change, tell_done, tell_machine, tell_room};
+use cc_answers::{tell_audit, tell_fault, tell_names, tell_no_memory, tell_ok, tell_text};
 use cc_disk::Disk;
 use cc_history::Receipt;
 use cc_library::Name;
@@ -661,14 +659,22 @@ fn run_found<P: Patience, W: Write, E: Write>(
     ensures { TellsRun most steps found (W.contents answers.old) (W.contents answers.new) result }
 {
     let image = &found.unit().stored().image;
-    match run_in_slices(alloc, image, steps, most.is_some(), patience) {
-        Ok(Some(run)) => tell_run(&run, answers),
-        Ok(None) => Err(ScriptFault::Stopped),
+    let is_served = most.is_some();
+    let bounds = RunBounds {
+        may_stop: is_served,
+        is_short: is_served,
+    };
+    match run_in_slices(alloc, image, &[], steps, bounds, patience) {
+        Ok((machine, end)) => match end {
+            RunEnd::Done(outcome) => tell_machine(alloc, &machine, outcome, answers),
+            RunEnd::Stopped => Err(ScriptFault::Stopped),
+            RunEnd::TooLong => Err(ScriptFault::WriteFault),
+        },
         Err(_) => tell_no_memory(answers, explanations),
     }
 }
 
-// Runs the image of a unit that was found on input words.
+// Runs the image of a unit that was found on input words. Only a server's script asks for this.
 fn call_found<W: Write, E: Write>(
     alloc: Global,
     found: Found,
@@ -680,8 +686,15 @@ fn call_found<W: Write, E: Write>(
     ensures { (text : List ℕ) × SaysRunOn words.now steps (Ok found) text × Tells (W.contents answers.old) (W.contents answers.new) text result }
 {
     let image = &found.unit().stored().image;
-    match run_image(alloc, image, words, steps) {
-        Ok(run) => tell_run(&run, answers),
+    let bounds = RunBounds {
+        may_stop: false,
+        is_short: true,
+    };
+    match run_in_slices(alloc, image, words, steps, bounds, &Unhurried) {
+        Ok((machine, end)) => match end {
+            RunEnd::Done(outcome) => tell_machine(alloc, &machine, outcome, answers),
+            RunEnd::Stopped | RunEnd::TooLong => Err(ScriptFault::WriteFault),
+        },
         Err(_) => tell_no_memory(answers, explanations),
     }
 }

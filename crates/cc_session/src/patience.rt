@@ -1,20 +1,21 @@
-// Whether a script is to end although more of it is left. The run of an image asks from time to time.
+// Whether a script is to end although more of it is left, and runs that are ended early. The run of an image asks from time to time
+// whether others wait, and looks at how much it has written.
 
-ghost use Rattle.std.specs.Prelude.{◌+◌, ℕ, [], IfOk};
-ghost use Rattle.cc_rv32.specs.Simulation.{IsAfter};
-ghost use Rattle.cc_answers.specs.Run.{IsRunOf};
-ghost use Rattle.cc_session.specs.internal.Calls.{IsRunOrCut};
+ghost use Rattle.std.specs.Prelude.{IfOk};
+ghost use Rattle.cc_session.specs.internal.Calls.{IsRunEnd};
 
 use crate::bounds::Meter;
-use cc_answers::ImageRun;
 use cc_rv32::image::Image;
 use cc_rv32::machine::Machine;
 use cc_rv32::outcome::MachineOutcome;
 use cc_spool::Spool;
 use std::alloc::{AllocError, Global};
 
-// How many instructions of a run are executed between two checks whether others wait.
-const SLICE: u64 = 10_000_000;
+// How many instructions of a run are executed between two looks whether it is to end early.
+const SLICE: u64 = 1_000_000;
+
+// A run that has written more words than this has no room in an answer of 16 MiB: the line of a word has at least two bytes.
+const MOST_WORDS: usize = 8_388_608;
 
 // Decides whether a script is to end.
 pub(crate) trait Patience {
@@ -46,31 +47,39 @@ impl<'a, S: Spool> Patience for Others<'a, S> {
     }
 }
 
-// What a machine has written after this many more instructions, and its outcome.
-fn run_to_end(alloc: Global, machine: &mut Machine, steps: u64) -> Result<ImageRun, AllocError>
-    ensures { IfOk result (λ run. (image : Image) (done : ℕ) → IsAfter image [] done machine.old → IsRunOf image (done + steps) [] run) }
-{
-    let Ok(outcome) = machine.run(steps) else {
-        return Err(AllocError);
-    };
-    match Vec::from_slice(alloc, machine.output()) {
-        Ok(output) => Ok(ImageRun { output, outcome }),
-        Err(_) => Err(AllocError),
-    }
+// How a run that may be ended early came to its end.
+#[derive(Clone, Copy, Drop)]
+pub(crate) enum RunEnd {
+    // All instructions that it may take were executed, or it ended by itself: its outcome.
+    Done(MachineOutcome),
+    // Others wait.
+    Stopped,
+    // It has written more words than an answer has room for.
+    TooLong,
 }
 
-// What an image does on no input within this many instructions, as `run_image` says. None if the run was stopped after a
-// slice, which is possible only if it may be stopped: then the image is not at its end.
+// Why a run may be ended early.
+#[derive(Clone, Copy, Drop)]
+pub(crate) struct RunBounds {
+    // Others may wait.
+    pub(crate) may_stop: bool,
+    // Its answer may have at most 16 MiB.
+    pub(crate) is_short: bool,
+}
+
+// Runs an image on input words for at most this many instructions, as `run_image` does. The result is the machine after the run,
+// and how the run ended: before its end only if it may be ended early for this reason.
 pub(crate) fn run_in_slices<P: Patience>(
     alloc: Global,
     image: &Image,
+    words: &[u32],
     steps: u64,
-    may_stop: bool,
+    bounds: RunBounds,
     patience: &P,
-) -> Result<Option<ImageRun>, AllocError>
-    ensures { IfOk result (IsRunOrCut may_stop image.now steps) }
+) -> Result<(Machine, RunEnd), AllocError>
+    ensures { IfOk result (λ ran. IsRunEnd bounds.may_stop bounds.is_short image.now words.now steps ran.0 ran.1) }
 {
-    let Ok(mut machine) = Machine::new(alloc, image, &[]) else {
+    let Ok(mut machine) = Machine::new(alloc, image, words) else {
         return Err(AllocError);
     };
     let mut left = steps;
@@ -79,12 +88,15 @@ pub(crate) fn run_in_slices<P: Patience>(
             return Err(AllocError);
         };
         left -= SLICE;
-        if may_stop && outcome == MachineOutcome::Going && patience.is_out() {
-            return Ok(None);
+        if bounds.is_short && MOST_WORDS < machine.output().len() {
+            return Ok((machine, RunEnd::TooLong));
+        }
+        if bounds.may_stop && outcome == MachineOutcome::Going && patience.is_out() {
+            return Ok((machine, RunEnd::Stopped));
         }
     }
-    match run_to_end(alloc, &mut machine, left) {
-        Ok(run) => Ok(Some(run)),
+    match machine.run(left) {
+        Ok(outcome) => Ok((machine, RunEnd::Done(outcome))),
         Err(_) => Err(AllocError),
     }
 }

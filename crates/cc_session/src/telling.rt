@@ -1,16 +1,21 @@
 // How an answer of a service is written.
 
-ghost use Rattle.std.specs.Prelude.{◌≡◌, List, ℕ};
+ghost use Rattle.std.specs.Prelude.{◌≡◌, ◌++◌, List, ℕ};
 ghost use Rattle.cc_answers.specs.Telling.{Tells};
-ghost use Rattle.cc_answers.specs.Text.{position_text};
+ghost use Rattle.cc_answers.specs.Text.{machine_outcome_text, position_text, words_text};
 ghost use Rattle.cc_service.specs.Fault.{fault_number};
 ghost use Rattle.cc_session.specs.declared.end.SessionEnd.TheVariants.{Finished};
 ghost use Rattle.cc_session.specs.Telling.{change_text, done_text, refusal_text, room_text, where_text};
 
 use crate::end::SessionEnd;
-use cc_answers::{Refusal, Stands, tell_number, tell_ok, tell_refusal, tell_space};
+use cc_answers::{
+    ImageRun, Refusal, Stands, tell_number, tell_ok, tell_refusal, tell_run, tell_space,
+    write_words,
+};
 use cc_history::Receipt;
 use cc_library::SpaceUse;
+use cc_rv32::machine::Machine;
+use cc_rv32::outcome::MachineOutcome;
 use cc_script::ScriptFault;
 use cc_service::ServiceFault;
 use std::alloc::Global;
@@ -151,5 +156,27 @@ pub(crate) fn tell_room<W: Write, E: Write>(
     match answer {
         Ok(space) => tell_space(space, answers),
         Err(fault) => refuse(alloc, fault, &[], answers, explanations),
+    }
+}
+
+// Writes the words that a machine has written, one on each line, and then how its run ended. The words are not copied.
+#[tactic(auto, using(crate::proofs::Cutting::told_on))]
+pub(crate) fn tell_machine<W: Write>(
+    alloc: Global,
+    machine: &Machine,
+    outcome: MachineOutcome,
+    answers: &mut W,
+) -> Result<(), ScriptFault>
+    ensures { Tells (W.contents answers.old) (W.contents answers.new) (words_text machine.now.output ++ machine_outcome_text outcome) result }
+{
+    match write_words(machine.output(), answers) {
+        Ok(()) => {
+            let end = ImageRun {
+                output: Vec::new(alloc),
+                outcome,
+            };
+            tell_run(&end, answers)
+        }
+        Err(_) => Err(ScriptFault::WriteFault),
     }
 }

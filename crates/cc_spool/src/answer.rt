@@ -49,8 +49,8 @@ impl AnswerFile {
         self.words.words()
     }
 
-    // Refuses all later writes. The log has 54 for the line that was being answered.
-    fn refuse(&mut self)
+    /// Refuses all later writes. The log has 54 for the line that was being answered.
+    pub(crate) fn refuse(&mut self)
         ensures whole { self.new.is_refused ≡ true }
     {
         if !self.is_refused {

@@ -1,5 +1,5 @@
 -- What a command of a script does and writes.
-use Rattle.std.specs.Prelude.{◌≡◌, ◌⊎◌, ℕ, Bool, true, false, List, [], Option, Some, None, IsSome, Result, Ok, Err}
+use Rattle.std.specs.Prelude.{◌≡◌, ◌⊎◌, ◌<◌, ◌≤◌, ℕ, Bool, true, false, List, [], length, Option, Some, None, IsSome, Result, Ok, Err}
 use Rattle.std.specs.Io.KnownBytes.{Appends}
 use Rattle.cc_answers.specs.Telling.{Tells}
 use Rattle.cc_script.specs.declared.fault.ScriptFault.{ScriptFault}
@@ -9,11 +9,14 @@ use Rattle.cc_history.specs.History.{MemberView}
 use Rattle.cc_c_semantics.specs.declared.mode.Mode.{Mode}
 use Rattle.cc_service.specs.Serving.{GetAnswers}
 use Rattle.cc_service.specs.declared.fault.ServiceFault.{ServiceFault}
+use Rattle.cc_rv32.specs.Machine.{machine_behavior}
+use Rattle.cc_rv32.specs.Simulation.{Simulation}
 use Rattle.cc_rv32.specs.declared.image.Image.{Image}
-use Rattle.cc_answers.specs.Run.{IsRunOf}
-use Rattle.cc_answers.specs.declared.run.ImageRun.{ImageRun}
+use Rattle.cc_rv32.specs.declared.outcome.MachineOutcome.TheVariants.{Going}
+use Rattle.cc_session.specs.declared.patience.RunEnd.{RunEnd}
+use Rattle.cc_session.specs.declared.patience.RunEnd.TheVariants as end
 use Rattle.cc_service.specs.Updating.{UpdateAnswers}
-use Rattle.cc_session.specs.Telling.{IsCutOff, IsCutRun, SaysAudit, SaysChange, SaysRunOn, no_memory_text}
+use Rattle.cc_session.specs.Telling.{IsCutRun, SaysAudit, SaysChange, SaysRunOn, no_memory_text}
 use Rattle.cc_session.specs.Playing.{AuditsEach, CallsAndWrites, CutsRun, Talk, Writes, talk}
 
 -- what `Does` says was done, and its text was written; or the text could not be written, 54, and the client is as if it had been written
@@ -54,11 +57,21 @@ UpdatesIf mode name None source old new = ⊥
 
 -- ---- runs
 
--- the result is what an image does within the steps; or the run was cut off, which is possible only if `may_stop` is true, and
--- the image is not at its end
-abbrev pub IsRunOrCut : (may_stop : Bool) → Image → (steps : ℕ) → Option ImageRun → Type 0
-IsRunOrCut may_stop image steps (Some run) = IsRunOf image steps [] run
-IsRunOrCut may_stop image steps None = (may_stop ≡ true) × IsCutOff image steps
+-- after some of the steps, fewer than `steps`, the image is not at its end
+abbrev pub IsGoingOn : Image → (words : List ℕ) (steps : ℕ) → Type 0
+IsGoingOn image words steps = (done : ℕ) × (done < steps) × ((machine_behavior image words done).outcome ≡ Going)
+
+-- within the steps the image writes more words than an answer of 16 MiB has room for
+abbrev pub IsTooLong : Image → (words : List ℕ) (steps : ℕ) → Type 0
+IsTooLong image words steps = (done : ℕ) × (done ≤ steps) × (8388608 < length (machine_behavior image words done).output)
+
+-- how the run of an image on these words came to its end: what the machine has written, and this outcome, are what the image does within the steps; or it was stopped, which is
+-- possible only if `may_stop` is true, and the image is not at its end; or it was ended since it writes too much, which is possible
+-- only if `is_short` is true
+abbrev pub IsRunEnd : (may_stop is_short : Bool) → Image → (words : List ℕ) (steps : ℕ) → Simulation → RunEnd → Type 0
+IsRunEnd may_stop is_short image words steps machine (end.Done outcome) = machine_behavior image words steps ≡ record { outcome = outcome; output = machine.output }
+IsRunEnd may_stop is_short image words steps machine end.Stopped = (may_stop ≡ true) × IsGoingOn image words steps
+IsRunEnd may_stop is_short image words steps machine end.TooLong = (is_short ≡ true) × IsTooLong image words steps
 
 -- the run of the unit that was found was not written: either it was cut off, 61, or it could not be written, 54
 abbrev pub TellsRunNot : (most : Option ℕ) (steps : ℕ) → Receipt → (old new : Option (List ℕ)) → ScriptFault → Type 0

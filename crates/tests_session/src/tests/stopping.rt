@@ -113,7 +113,7 @@ fn scripts_that_end_behind_a_line(rt: HostRuntime) -> Result<(), Fail> {
     Ok(())
 }
 
-// What is added, and how it runs: `a` never ends, `b` ends at once, and `c` needs more than 10,000,000 instructions for the sum
+// What is added, and how it runs: `a` never ends, `b` ends at once, and `c` needs more than 1,000,000 instructions for the sum
 // of the numbers below 2,000,000, which is 1,999,999,000,000, or -1,455,759,936 as a word.
 static RUNS: [Case; 7] = [
     ("add a 26\nint main(void){while(1){}}\n", "ok 1\n", None),
@@ -133,7 +133,7 @@ static RUNS: [Case; 7] = [
     ),
 ];
 
-// If others wait, a run that is not at its end is cut off after 10,000,000 instructions. Its unit was fetched, and no part of
+// If others wait, a run that is not at its end is cut off after 1,000,000 instructions. Its unit was fetched, and no part of
 // its output is written.
 static CUTS: [Case; 8] = [
     ("add a 26\nint main(void){while(1){}}\n", "ok 1\n", None),
@@ -143,8 +143,8 @@ static CUTS: [Case; 8] = [
         "ok 3\n",
         None,
     ),
-    ("run a 10000000\n", "going\n", None),
-    ("run a 10000001\n", "fault 61 Stopped\n", Some(61)),
+    ("run a 1000000\n", "going\n", None),
+    ("run a 1000001\n", "fault 61 Stopped\n", Some(61)),
     ("run b 25000000\n", "exited 0\n", None),
     ("run c 25000000\nlist\n", "fault 61 Stopped\n", Some(61)),
     ("list\n", "unit a\nunit b\nunit c\nok 8\n", None),
