@@ -5,7 +5,7 @@ replace.py [--checked] LIBRARY [FOLDER], or cclib-replace of an install: audits 
 --checked for a library of checked units. Each unit that is not confirmed is replaced by a compilation (with --checked a checked one) of its own source: the one that the library's file has of it (docs/FORMATS.md), or that of FOLDER/NAME.c. If the library is
 full (34) it is compacted once and the change is made again. Then all are audited again. A unit whose source is refused, has more than 65,536
 bytes (7) or can't be read stays as it is. Says how many were confirmed before and are now; the status is 1 if one is not. The program is the
-one beside it, or that of the repository, which has to be built (./cclib)."""
+one beside it, or that of the repository, which has to be built (./cclib --prove)."""
 
 import os
 import subprocess

@@ -1960,9 +1960,10 @@ echo x >>"$0.count"
 exit $status
 """
 # What ./cclib records about the texts and the program, in the form in which it keeps that.
-SEEN = """here=$1 program=$1/crates/cclib/out/cclib
+SEEN = """here=$1 program=$1/crates/cclib/out/cclib unproved=$1/crates/cclib/out/rlib/cclib-unproved
 eval "$(grep '^seen()' "$1/cclib")"
-seen >"$1/crates/cclib/out/rlib/cclib.seen"
+now=$(seen)
+echo "${now%% *} proved" >"$1/crates/cclib/out/rlib/cclib.seen"
 """
 PUT = ("bin/cclib", "share/man/man1/cclib.1", "share/bash-completion/completions/cclib", "share/cclib/FROM", "share/cclib/FILES")
 

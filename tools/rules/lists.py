@@ -50,46 +50,77 @@ def of_help():
 
 def listed_by(launcher):
     """Returns the commands that the launcher names in its code, apart from comments and messages. Two places may name some: `./cclib help`
-    is answered without a build, and --quick makes paths whole."""
-    code = re.sub(r"^quick\(\) \{\n.*?^\}\n", "", launcher, flags=re.M | re.S)
+    is answered without a build, and `writes` names those that write files."""
+    code = re.sub(r"^writes\(\) \{\n.*?^\}\n", "", launcher, flags=re.M | re.S)
     code = re.sub(r"(^|\s)#.*$", "", code, flags=re.M)
     code = re.sub(r'"[^"]*"|--[a-z]+', "", code).replace("-h | help)", "")
     return sorted(set(of_help()) & set(re.findall(r"[a-z]+", code)))
 
 
-def start(folder, kit, words):
-    """Returns the status and the output of the launcher in this folder, before anything is built."""
-    shutil.rmtree(f"{folder}/crates/cclib/out", ignore_errors=True)
-    how = {"stdin": subprocess.DEVNULL, "stdout": subprocess.PIPE, "stderr": subprocess.PIPE, "env": {**os.environ, "PATH": f"{kit}:{os.environ['PATH']}"}}
+def start(folder, kit, words, **more):
+    """Returns the status, the output and the messages of the launcher in this folder."""
+    how = {"stdin": subprocess.DEVNULL, "stdout": subprocess.PIPE, "stderr": subprocess.PIPE}
+    how["env"] = {**os.environ, "CCLIB": "", "PATH": f"{kit}:{os.environ['PATH']}", **more}
     done = subprocess.run([f"{folder}/cclib", *words], text=True, check=False, **how)
-    return done.returncode, done.stdout
+    return done.returncode, done.stdout, done.stderr
 
 
 BUILD = """#!/bin/sh
-cd "$(dirname "$0")/crates/cclib" && mkdir -p out/rlib && printf '#!/bin/sh\\necho "$*"\\n' > out/cclib && chmod +x out/cclib
+cd "$(dirname "$0")/UP" && mkdir -p out/rlib && printf '#!/bin/sh\\necho "MARK$*"\\n' > out/PROGRAM && chmod +x out/PROGRAM
 """
+UNCHECKED, STAYS = "proofs, which have not been checked here", "what it writes stays"
+# The commands that write files.
+WRITERS = {"library", "serve", "submit", "restore", "copy"}
+
+
+def started_anew(clone, kit, words, **more):
+    """Returns what the launcher does with these words before anything is built."""
+    shutil.rmtree(f"{clone}/crates/cclib/out", ignore_errors=True)
+    return start(clone, kit, words, **more)
+
+
+def without_proofs(clone, kit):
+    """The launcher compiles and runs what docs/help.txt names, after options too, and says that nothing is proved, and of each command that
+    writes files that this stays. It refuses all else, and anything if only the proved program is asked for."""
+    wrong = []
+    for words in [[it, "a word"] for it in of_help()] + [["--json", "--quiet", "check"]]:
+        status, out, errors = started_anew(clone, kit, words)
+        if (status, out) != (0, f"unproved {' '.join(words)}\n"):
+            wrong.append(f"./cclib {' '.join(words)} is not built and run")
+        elif errors.count("\n") != 1 or UNCHECKED not in errors or (STAYS in errors) != (words[0] in WRITERS):
+            wrong.append(f"./cclib {' '.join(words)} says {errors!r}")
+    for words in (["planted"], ["--json", "planted"], []):
+        if started_anew(clone, kit, words)[:2] != (2, ""):
+            wrong.append(f"./cclib {' '.join(words)} is not refused")
+    for words, more in ((["--proved", "check"], {}), (["check"], {"CCLIB": "proved"}), (["--quick", "check"], {"CCLIB": "proved"})):
+        if started_anew(clone, kit, words, **more)[:2] != (1, ""):
+            wrong.append(f"./cclib {' '.join(words)} with {more} runs what is not proved")
+    return wrong
 
 
 def launcher():
-    """./cclib has no list of commands: what docs/help.txt names is built and run, after options too, and nothing else is. A stand-in builds."""
+    """./cclib has no list of commands but that of those which write files. It runs the program without proofs, and says so, until ./cclib --prove
+    has built the proved one. Stand-ins build both."""
     names = listed_by(read("cclib"))
     wrong = [f"cclib names commands in its code: {' '.join(names)}"] if names else []
+    wrong += [f"the help has no command '{it}', which writes files" for it in sorted(WRITERS - {*of_help()})]
     with tempfile.TemporaryDirectory() as work:
         clone, kit = f"{work}/clone", f"{work}/kit"
-        for folder in (f"{clone}/docs", f"{clone}/crates/cclib/src", kit):
+        for folder in (f"{clone}/docs", f"{clone}/tools", f"{clone}/crates/cclib/src", kit):
             os.makedirs(folder)
         for name in ("cclib", "VERSION", "crates.txt", "docs/help.txt"):
             shutil.copy(f"{TOP}/{name}", f"{clone}/{name}")
-        for path, text in ((f"{clone}/prove-below", BUILD), (f"{kit}/rt", "#!/bin/sh\n")):
+        proves = BUILD.replace("UP", "crates/cclib").replace("MARK", "").replace("PROGRAM", "cclib")
+        compiles = BUILD.replace("UP", "../crates/cclib").replace("MARK", "unproved ").replace("PROGRAM", "rlib/cclib-unproved")
+        for path, script in ((f"{clone}/prove-below", proves), (f"{clone}/tools/unproved", compiles), (f"{kit}/rt", "#!/bin/sh\n")):
             with open(path, "w", encoding="utf-8") as file:
-                file.write(text)
+                file.write(script)
             os.chmod(path, 0o755)
-        for words in [[it, "a word"] for it in of_help()] + [["--json", "--quiet", "check"]]:
-            if start(clone, kit, words) != (0, f"{' '.join(words)}\n"):
-                wrong.append(f"./cclib {' '.join(words)} is not built and run")
-        for words in (["planted"], ["--json", "planted"], []):
-            if start(clone, kit, words) != (2, ""):
-                wrong.append(f"./cclib {' '.join(words)} is not refused")
+        wrong += without_proofs(clone, kit)
+        if started_anew(clone, kit, ["--prove"])[0] or start(clone, kit, ["check", "a word"]) != (0, "check a word\n", ""):
+            wrong.append("./cclib check after ./cclib --prove does not run the proved program alone")
+        if start(clone, kit, ["--quick", "check"])[:2] != (0, "unproved check\n"):
+            wrong.append("./cclib --quick check after ./cclib --prove runs another program")
     return wrong
 
 
