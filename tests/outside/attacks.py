@@ -1985,7 +1985,7 @@ class Tree:
         for name in ("install", "cclib", "prove-below", "crates.txt"):
             os.makedirs(self.top, exist_ok=True)
             shutil.copy(f"{source}/{name}", self.top)
-        for name in ("docs", "examples"):
+        for name in ("docs", "examples", "tools"):
             shutil.copytree(f"{source}/{name}", f"{self.top}/{name}")
         write(f"{self.top}/crates/cclib/src/main.rt", "// The program.\n")
         self.build("one")
@@ -2020,7 +2020,7 @@ def install_cut(place):
         must(here.install().returncode == 0, "install does not install")
         seen[version] = here.files()
     here.build("two")
-    for name, count in [(name, count) for name in ("INT", "TERM", "HUP") for count in (1, 3, 5)]:
+    for name, count in [(name, count) for name in ("INT", "TERM", "HUP") for count in (1, 3, 7)]:
         if here.files() != seen["one"]:
             shutil.rmtree(here.prefix)
             here.build("one")
