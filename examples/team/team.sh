@@ -3,10 +3,12 @@
 #
 # Four units are stored, one is replaced, all are listed and audited; source and image of each are taken out, the image is read by objcopy and compared with
 # the listing, and, where qemu is there, run on a core that knows nothing of cclib, with the start of start.s and with no more stack than `size` says of the stored unit.
-# FOLDER (made, else a temporary one) has the library and the images afterwards. CCLIB names the program, where it is not ./cclib. The status is 0 where all is as it should be.
+# FOLDER (made, else a temporary one) has the library and the images afterwards. CCLIB names the program, where it is not ./cclib (which takes `proved`). The status is 0 where all is as it should be.
 set -euo pipefail
 here=$(CDPATH='' cd -- "$(dirname -- "$(readlink -f -- "$0")")" && pwd)
-cclib=$(command -v -- "${CCLIB:-$here/../../cclib}") || { echo "team: no program ${CCLIB:-$here/../../cclib}" >&2; exit 1; }
+program=${CCLIB:-proved}
+[ "$program" != proved ] || program=$here/../../cclib
+cclib=$(command -v -- "$program") || { echo "team: no program $program" >&2; exit 1; }
 [[ $cclib == /* ]] || cclib=$PWD/$cclib
 # All files get short names in the folder: qemu takes a comma of its path for the next option.
 if [ $# -gt 0 ]; then
