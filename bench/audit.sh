@@ -3,7 +3,7 @@
 # counts. First the audit of a unit of 64 functions that is in a library TIMES (20) times, by a session of `cclib library`, not counting its start,
 # divided by the same number of compilations of its text: the goal is at most 1.
 # Then certificates that an attacker might submit (bench/hostile.py); and how many bytes a unit's record takes on disk, without and with its
-# certificate, for the programs of bench/programs and for the unit of 64 functions. Build the programs first (./prove-below bench, ./cclib), or set
+# certificate, for the programs of bench/programs and for the unit of 64 functions. Build the programs first (./prove-below bench, ./cclib --prove), or set
 # BENCH and CCLIB to built ones.
 set -eu
 # shellcheck source=bench/words.sh

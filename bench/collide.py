@@ -7,7 +7,7 @@ name: there the same number of names begin alike, in the same order, and their h
 
 A name has six letters. Those that collide have the same low eleven bits of their hash, so they begin at the same group in any table of up to that
 many groups, and the same high byte, so each of them has to be compared. `objects` declares each name once; `uses` declares half of them and then uses
-all, so half are faults; `locals` declares them in functions of 256. Build the program first (./cclib --help). gcc compiles the search for the names,
+all, so half are faults; `locals` declares them in functions of 256. Build the program first (./cclib --prove). gcc compiles the search for the names,
 which takes some seconds."""
 import os, random, resource, subprocess, sys, tempfile
 

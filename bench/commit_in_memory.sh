@@ -3,7 +3,7 @@
 # bytes of source and 2,048 words of code) are made in a session of `cclib library`: each is a `compact` of a library that has only this unit. The
 # ratio is the time on a file in memory (MEMORY, /dev/shm) / the time on a file in FOLDER: both ROUNDS times (10), the best of each, not counting a
 # start that does nothing. Times are by the wall clock, since both wait for the device. The first includes what the file in memory takes. Build the
-# program first (./cclib), or set CCLIB to a built one.
+# program first (./cclib --prove), or set CCLIB to a built one.
 set -eu
 # shellcheck source=bench/words.sh
 . "$(dirname "$0")/words.sh"

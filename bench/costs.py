@@ -4,7 +4,7 @@
 costs.py [FILE..]: for each C program (without FILE: those of bench/programs) prints how many instructions the run of each image executes (the least
 number of steps with which `run` comes to an end), how many words the image has, and the processor seconds of `image`, ROUNDS (20) times; then the
 ratios, checked / plain, with the geometric means and the worst. A program reads the words that bench/programs/inputs has for its name, or those of a
-file NAME.words next to it. Build the program first (./cclib --help), or set CCLIB to a built one. The status is 1 if the two images write different
+file NAME.words next to it. Build the program first (./cclib --prove), or set CCLIB to a built one. The status is 1 if the two images write different
 words."""
 import math
 import os

@@ -4,7 +4,7 @@
 # better), over 64 KiB of each kind, not counting the start of either program; the two run in turn, and the best of ROUNDS runs (40) of each counts.
 # Then the largest amount of memory that `check` takes, in bytes for each byte of text, minus that for an empty text; and the cost of initialisers of
 # an array of bytes / that of an array of words. `check` runs as `--quiet check`, since gcc does not warn either; how much longer it takes with
-# warnings is printed last. Build the program first (./cclib), or set CCLIB to a built one.
+# warnings is printed last. Build the program first (./cclib --prove), or set CCLIB to a built one.
 set -eu
 # shellcheck source=bench/words.sh
 . "$(dirname "$0")/words.sh"

@@ -15,7 +15,7 @@ hostile.py explain     texts with twenty errors: 3,000 names and twenty that are
 
 The LTL is what the compiler makes of a text, with a slot in place of each register, and then changed; FORMATS.md has its bytes. The cost of judging a
 function once is the time of `bench judge` (from making its RTL on), and that of an audit is the time of `cclib library`, not counting their starts:
-processor seconds, the least of ROUNDS rounds (3). Build the programs first (./prove-below bench, ./cclib), or set BENCH and CCLIB to built ones. A C
+processor seconds, the least of ROUNDS rounds (3). Build the programs first (./prove-below bench, ./cclib --prove), or set BENCH and CCLIB to built ones. A C
 compiler is needed, for peak.c."""
 
 import os

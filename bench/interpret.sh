@@ -2,7 +2,7 @@
 # The interpreter's speed on programs that do different kinds of work: the processor seconds of each. If the commands of a plain simulator of
 # the machine and of a C compiler for it are given, that compiler's code runs there too, unoptimised, and the ratio is our time / the
 # simulator's: bench/interpret.sh './rv32sim -d' clang --target=riscv32, or with riscv64-unknown-elf-gcc
-# The two run in turn, and the best of ROUNDS runs (5) counts. Build the program first (./cclib), or set CCLIB to a built one.
+# The two run in turn, and the best of ROUNDS runs (5) counts. Build the program first (./cclib --prove), or set CCLIB to a built one.
 set -eu
 # shellcheck source=bench/words.sh
 . "$(dirname "$0")/words.sh"

@@ -5,7 +5,7 @@
 # STEPS`, and the ratio is our speed / its speed: 1.0 is as fast, and more is faster. If the command of a C compiler is given too, its code for the
 # programs of bench/programs, unoptimised, runs on both: bench/machine.sh './rv32sim -d' clang --target=riscv32, or with riscv64-unknown-elf-gcc
 # The two run in turn, and the best of ROUNDS runs (5) counts. Ours is `run` in a session over a library with a unit of these words, which
-# tools/records.py writes; the time of a session without a run is subtracted. Build the program first (./cclib), or set CCLIB to a built one.
+# tools/records.py writes; the time of a session without a run is subtracted. Build the program first (./cclib --prove), or set CCLIB to a built one.
 set -eu
 # shellcheck source=bench/words.sh
 . "$(dirname "$0")/words.sh"

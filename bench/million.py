@@ -3,8 +3,8 @@
 each.
 
 million.py [UNITS] [AREA] [FOLDER]: UNITS units (1,000,000), in areas of AREA bytes (512 MiB), on a file in FOLDER (this one). A script has at most
-16,777,216 bytes, so the units are added by as many runs of `cclib library` as that takes. PROGRAM names a program other than the one that ./cclib
-builds."""
+16,777,216 bytes, so the units are added by as many runs of `cclib library` as that takes. PROGRAM names a program other than the one that
+./cclib --prove builds."""
 
 import os
 import subprocess

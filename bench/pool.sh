@@ -2,7 +2,7 @@
 # What a pool of workers gains, by the clock: the time to `add` a unit of 64 functions of about 250 tokens each, in a session of `cclib library` with
 # 1, 2 and 4 workers, compared with what the machine itself gains when the same number of processes compile the same text at once, on one thread each.
 # Each time is the mean of TIMES turns (10), not counting a start that does nothing. The best of ROUNDS rounds (5) counts; in each round all are
-# measured in turn. Build the programs first (./prove-below bench, ./cclib), or set BENCH and CCLIB to built ones. tests/outside/memory.sh
+# measured in turn. Build the programs first (./prove-below bench, ./cclib --prove), or set BENCH and CCLIB to built ones. tests/outside/memory.sh
 # session and server check that no thread waits for ever if memory is refused, with one client and with more.
 set -eu
 # shellcheck source=bench/words.sh

@@ -5,7 +5,7 @@
 # is the time of TIMES `run`s (20,000) of a unit with that many bytes of source, minus that of the same number of `run`s of the same unit with no
 # source. The commit is `compact` of a library that has only the first unit, COUNT times (500), on a file in FOLDER. All of this is done in sessions
 # of `cclib library`, ROUNDS times (10) in turn, and the best counts, minus a start that does nothing: processor time, and for the commits also
-# wall-clock time. Build the program first (./cclib), or set CCLIB to a built one.
+# wall-clock time. Build the program first (./cclib --prove), or set CCLIB to a built one.
 set -eu
 # shellcheck source=bench/words.sh
 . "$(dirname "$0")/words.sh"

@@ -8,7 +8,7 @@
 # from the server's start to the last answer, minus the time for scripts of one `list`; so it includes what it takes to read a line and write an
 # answer. Both work in FOLDER and are measured in turn, ROUNDS times (5); the best of each counts, by the wall clock, since both wait for the device.
 # The ratio is ours / sqlite's: more is better.
-# Build the program first (./cclib), or set CCLIB to a built one; libsqlite3-dev has to be installed.
+# Build the program first (./cclib --prove), or set CCLIB to a built one; libsqlite3-dev has to be installed.
 set -eu
 # shellcheck source=bench/words.sh
 . "$(dirname "$0")/words.sh"

@@ -9,7 +9,7 @@
 # quiet moment. Then opening: the time that `cclib source` takes over a library of UNITS units (1,000), minus that over a
 # library of one unit, is compared with the time to read the library's file with one call, in turn, by the wall clock, and
 # the least of ROUNDS times of each counts. The file has two areas, and opening reads one of them; opening also syncs
-# twice. Build the program first (./cclib), or set CCLIB to a built one.
+# twice. Build the program first (./cclib --prove), or set CCLIB to a built one.
 set -eu
 # shellcheck source=bench/words.sh
 . "$(dirname "$0")/words.sh"

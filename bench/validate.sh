@@ -8,7 +8,7 @@
 # (400,000) nodes in all.
 # Then the largest amount of memory that the whole program takes with 256 locals and 8 parameters live and everything spilled (the goal is 64 MB),
 # without the validator and with it; and LTL that an attacker might submit (bench/hostile.py).
-# Build the programs first (./prove-below bench, ./cclib), or set BENCH and CCLIB to built ones. A C compiler is needed, for bench/peak.c.
+# Build the programs first (./prove-below bench, ./cclib --prove), or set BENCH and CCLIB to built ones. A C compiler is needed, for bench/peak.c.
 set -eu
 # shellcheck source=bench/words.sh
 . "$(dirname "$0")/words.sh"

@@ -6,7 +6,7 @@ script=$(basename "$0")
 # cclib, bench: set $cclib to the built program, and $bench to that of crates/bench; CCLIB and BENCH name others
 cclib() {
     cclib=${CCLIB:-$top/crates/cclib/out/cclib}
-    [ -x "$cclib" ] || fail "build the program first: ./cclib check < examples/quotient.c"
+    [ -x "$cclib" ] || fail "build the program first: ./cclib --prove"
 }
 bench() {
     bench=${BENCH:-$top/crates/bench/out/bench}

@@ -6,7 +6,7 @@ tokens left out, doubled or changed; some are in two files, some have bytes that
 `size` are done for each text with `--json` and without; for every tenth text a script with it is also run by `library`, and then `call`, `diff` and
 `log` on the library that this leaves. Python's json reads each line of the JSON form, and what the line says is turned into the lines of the plain
 form. Prints how many were compared, how many objects of each kind there were, and each text whose answers differ; the status is 1 if one does. Build
-the program first (./cclib), or set CCLIB to a built one."""
+the program first (./cclib --prove), or set CCLIB to a built one."""
 
 import collections
 import json

@@ -5,7 +5,7 @@ audit.py [COUNT] [SEED] [FOLDER]: COUNT of compare.py's programs (500), from a s
 Each is compiled and stored, the file is opened again, and every unit has to be confirmed. Then one random byte of each image is changed: no unit may
 be confirmed. Then one random byte of each certificate is changed: the units that are still confirmed are counted, and each of them has to run as
 before. Last, the records are written as they were before there were certificates: the file has to have the same units, none with a certificate, and
-each has to run as before. Build the program first (./cclib), or set CCLIB to a built one."""
+each has to run as before. Build the program first (./cclib --prove), or set CCLIB to a built one."""
 
 import os
 import random

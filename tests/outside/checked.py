@@ -5,7 +5,7 @@ checked.py [COUNT] [SEED] [GCC]: COUNT programs (100), from a seed (1): those of
 source ends, `run --checked` has to write the same words and end in the same way. If it goes wrong, but not because of its depth, `run --checked` has
 to write the same words and go on for 1,000,000,000 instructions. If a function is too large (22) or the source is too deep, the program is passed
 over. For the first GCC (0) of them gcc's program, compiled with its own tests, has to write the same words and end in the same way or with a signal;
-a program that gcc refuses is passed over there. Build the program first (./cclib --help), or set CCLIB to a built one."""
+a program that gcc refuses is passed over there. Build the program first (./cclib --prove), or set CCLIB to a built one."""
 
 import subprocess
 import sys

@@ -6,7 +6,7 @@ functions of up to eight parameters (some may return at once), elements next to 
 and divisions are guarded, and sums wrap (-fwrapv). Every second program has further objects between its own, so that some of these lie beyond the
 first 4 KiB of the globals, or across their end. The words that are written have to be the same, and also the word that main returns; of that, gcc
 gives only the last eight bits. A program in which an operation goes wrong is passed over, after a check that it is compiled. Build the program first
-(./cclib --help), or set CCLIB to a built one. The text of a program whose words differ is printed. gcc compiles 25 of them as one text, in which each
+(./cclib --prove), or set CCLIB to a built one. The text of a program whose words differ is printed. gcc compiles 25 of them as one text, in which each
 name at file scope has the program's number."""
 
 import os

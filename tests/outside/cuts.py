@@ -337,7 +337,7 @@ def main():
     count = int(sys.argv[1]) if len(sys.argv) > 1 else 1000
     draw = random.Random(int(sys.argv[2]) if len(sys.argv) > 2 else 1)
     if not os.access(PROGRAM, os.X_OK) or not shutil.which("strace"):
-        sys.exit("cuts.py: needs the program, ./cclib check builds it, and strace")
+        sys.exit("cuts.py: needs the program, ./cclib --prove builds it, and strace")
     with tempfile.TemporaryDirectory() as work:
         seen = record(work)
         print(f"recorded: {len(seen.units)} scripts, {sum(map(len, seen.steps.values()))} steps of folders, {len(seen.disk.writes)} writes of the library", flush=True)

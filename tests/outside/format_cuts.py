@@ -8,7 +8,7 @@ of these are not tried: only images that are all of one kind from each sector on
 mixtures; and for a call that changes a few bytes every mixture of these. Then the program opens each. It prints how often an image is no library
 (38), is damaged (37), is empty, is the old library in every byte, or, in any other state, has a unit, which must never happen: the status is 1 then.
 
-The program is `cclib library`, which has to be built (./cclib), or CCLIB names one that is. With --device the library is on a loop device over the
+The program is `cclib library`, which has to be built (./cclib --prove), or CCLIB names one that is. With --device the library is on a loop device over the
 file, which requires root."""
 
 import collections

@@ -4,7 +4,7 @@
 kills.py [COUNT] [FOLDER] [SEED]: makes COUNT kills (1000), on a file in FOLDER (this one), at random moments from SEED (1). The process is `cclib
 library` with a script of adds, and reports each unit whose add was answered Ok. It is killed (SIGKILL) at a random moment of its first 50
 milliseconds; then the library has to open, and a script of one `list` has to find all units that were reported and at most one unit more. Once the
-file is full, a new one is made. Build the program first (./cclib), or set CCLIB to a built one."""
+file is full, a new one is made. Build the program first (./cclib --prove), or set CCLIB to a built one."""
 
 import os
 import random

@@ -10,7 +10,7 @@ moments. Under the new name there may be nothing or the whole library; anything 
 before the new file gets its name.
 libraries.py calls [COUNT [SEED]]: COUNT random programs (1,000) in a library: what `call` answers for each on random words within a random bound is
 compared with `run` and with the simulator of image.py, which also counts `executed M`; one call after the other, and with `--lines`. The status is 1
-if something differs. The program has to be built (./cclib)."""
+if something differs. The program has to be built (./cclib --prove)."""
 
 import os
 import random

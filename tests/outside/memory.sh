@@ -8,7 +8,7 @@
 #             a service's `add`, with its text handed in first or not (40, or 41 if the allocation was the worker's; all is as before, and the same
 #             call then goes as always). A refusal in what the test makes for itself ends the test earlier. No run may hang
 #   session, server   session.py refuse: a session of `cclib library`; fails.py memory: a server and its workers under two `submit`s
-# Build the program first (./cclib), or set CCLIB to a built one, and build the tests (rt test in the crate); gcc makes the `malloc`.
+# Build the program first (./cclib --prove), or set CCLIB to a built one, and build the tests (rt test in the crate); gcc makes the `malloc`.
 set -eu
 # shellcheck source=bench/words.sh
 . "$(dirname "$0")/../../bench/words.sh"

@@ -3,7 +3,7 @@
 
 modes.py: a program with a wrong index is compiled by `image`, `asm`, `run`, `library` and a server, with and without --checked. The image that a
 library or a server stores has to be the one of the same kind that `image` prints, the session's `audit` has to confirm that one and not the other,
-and only a plain run ends. Build the program first (./cclib --help), or set CCLIB to a built one. The status is 1 if something differs."""
+and only a plain run ends. Build the program first (./cclib --prove), or set CCLIB to a built one. The status is 1 if something differs."""
 
 import subprocess
 import sys

@@ -5,7 +5,7 @@ pattern.py [COUNT] [SEED]: the programs of examples/ and bench/programs, and COU
 Before each run all words from 0x00600000 up to 0x00800000 minus the reported stack get a pattern; afterwards they have to be unchanged, and the words
 written and the status have to be those of `cclib run`. The stack just above has another pattern; the script prints how many images change its lowest
 word. The start code and the services are those of examples/team. A program that does not end within a million instructions is passed over.
-qemu-system-riscv32 and riscv64-unknown-elf-as and -ld are needed. The program has to be built (./cclib --help), or CCLIB names one that is. The
+qemu-system-riscv32 and riscv64-unknown-elf-as and -ld are needed. The program has to be built (./cclib --prove), or CCLIB names one that is. The
 status is 1 if one differs."""
 import pathlib
 import struct

@@ -4,7 +4,7 @@
 refused.py [COUNT] [SEED]: COUNT programs (400), from a seed (1), each with ten functions in addition to those of a program of
 tests/outside/compare.py. A function has up to eight parameters, up to 40 locals that may all be live at once, loops, and calls of the functions
 before it. If a function is refused, the text of its program is printed. `cclib stages` says for each function whether its colouring is refused. Build
-the program first (./cclib), or set CCLIB to a built one."""
+the program first (./cclib --prove), or set CCLIB to a built one."""
 
 import os
 import subprocess

@@ -10,7 +10,7 @@ session.py commits [FOLDER [COUNT]]    commits a second of one client, with COUN
                                        name, divided by those of sqlite (sqlite.c: WAL, synchronous FULL, one connection) that puts the same number of bytes, in turn, five
                                        rounds; the best of each counts, ours minus the best of a session without a command. Needs libsqlite3-dev
 
-The file is put into FOLDER (this one). Build the program first (./cclib), or set CCLIB to a built one; refuse needs gcc."""
+The file is put into FOLDER (this one). Build the program first (./cclib --prove), or set CCLIB to a built one; refuse needs gcc."""
 
 import os
 import subprocess
@@ -261,7 +261,7 @@ def main():
     if len(sys.argv) < 2 or sys.argv[1] not in ("refuse", "workers", "commits"):
         sys.exit(__doc__)
     if not os.access(PROGRAM, os.X_OK):
-        sys.exit("session.py: build the program first: ./cclib --version does not, ./cclib check does")
+        sys.exit("session.py: build the program first: ./cclib --prove")
     with tempfile.TemporaryDirectory(dir=sys.argv[2] if len(sys.argv) > 2 else ".") as work:
         if sys.argv[1] == "refuse":
             refuse(work)

@@ -1,7 +1,7 @@
 #!/usr/bin/env bash
 # Tests a write to a file that the system cuts short: `add` then answers 35, and `ok` if the write was whole.
 # The shell's limit on the size of a file (ulimit -f) cuts the write that crosses it, as a full file system does.
-# Build the program first (./cclib), or set CCLIB to a built one.
+# Build the program first (./cclib --prove), or set CCLIB to a built one.
 set -eu
 # shellcheck source=bench/words.sh
 . "$(dirname "$0")/../../bench/words.sh"

@@ -8,7 +8,7 @@ stack.py [COUNT] [SEED] [STEPS]: COUNT random programs (100) of tests/outside/co
   `addi x2, x2, -N`, and its calls are its `jal x1`;
 - a plain simulator (tests/outside/image.py) runs the image for STEPS instructions (200,000), and no load or store below x2's first value is deeper
   than the reported stack.
-The same for plain and checked images. Build the program first (./cclib --help), or set CCLIB to a built one. The status is 1 if one differs."""
+The same for plain and checked images. Build the program first (./cclib --prove), or set CCLIB to a built one. The status is 1 if one differs."""
 import pathlib
 import subprocess
 import sys

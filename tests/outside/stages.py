@@ -5,7 +5,7 @@ stages.py [COUNT] [SEED]: COUNT random programs (100) of tests/outside/compare.p
 end with status 0; all its code has to be that listing after its start of three words; if a single function is asked for, the answer has to be its
 part of the whole; and each stage's text has to belong to its language, and every label that it names has to exist. Then tests/outside/languages.py
 runs each stage except the code on eight words, and the stage has to write what `interpret` says: if one of the two is cut off, the words that both
-reach have to agree, and if an operation goes wrong, only those before it. Build the program first (./cclib --help), or set CCLIB to a built one.
+reach have to agree, and if an operation goes wrong, only those before it. Build the program first (./cclib --prove), or set CCLIB to a built one.
 The first values of objects are taken from gcc."""
 
 import glob

@@ -4,7 +4,7 @@
 watched.py [COUNT] [SEED]: the programs of examples/ and bench/programs, and COUNT random ones (1,000) of tests/outside/compare.py from a seed (1), each
 within 100,000 steps on four words. The last line, which says how the run ended, is compared. Then a loop of 100,000,000 steps is traced, and the
 largest amount of memory of this and of a short run is printed, with the times of all three. The status is 1 if something differs. Build the program
-first (./cclib), or set CCLIB to a built one."""
+first (./cclib --prove), or set CCLIB to a built one."""
 
 import glob
 import os
