@@ -1,7 +1,7 @@
 #!/usr/bin/env python3
 """Whether the clauses, tests and wrong bodies that documents name are in the sources.
 
-    tools/rules/trace.py --left    which wrong bodies and test modules no row of docs/TRACE.md names
+    tools/rules/trace.py --left    which wrong bodies, test modules and files of cases no row of docs/TRACE.md names
 
 As a rule: each row of docs/TRACE.md, and what all pages cite as `call` of `crate` (`clause`). Each promise of README.md has a number,
 and docs/TRACE.md a row for each number. A row without a clause says `tested only` or `argued only`."""
@@ -17,6 +17,8 @@ QUOTED = re.compile(r"`([\w/]+)`")
 # A wrong body that tests/outside/edits.py tries, and not the gate, is marked.
 EDIT = re.compile(r"`(\w+)`(†?)")
 EDITS = re.compile(r"`(\w+)`: ((?:`\w+`†?(?:, )?)+)")
+# Cases that tests/rows/run.py runs over the program: a file of them, or one.
+CASES = re.compile(r"`rows/(\w+)(?:::([\w-]+))?`")
 WITHOUT = ("tested only", "argued only")
 
 
@@ -58,6 +60,12 @@ def is_module_of(crate, name):
     return any((CRATES / crate / room / f"{name}.rt").is_file() for room in ("src", "src/tests"))
 
 
+def has_case(name, case):
+    """Returns whether tests/rows has that file of cases, and in it that case if one is named."""
+    path = TOP / "tests/rows" / f"{name}.rows"
+    return path.is_file() and (not case or f"= {case}" in path.read_text().split("\n"))
+
+
 def edit_file(crate, name, by_hand):
     """Returns the path of a wrong body: of one that is tried by hand, or of one that the gate tries."""
     return (TOP / "tests/outside/edits" / crate if by_hand else CRATES / crate / "must-fail") / f"{name}.edit"
@@ -77,6 +85,7 @@ def not_in_row(row):
         yield f"a clause of '{promise}'"
     for crate, modules in NAMED.findall(tests):
         yield from (f"{crate}: `{it}`" for it in QUOTED.findall(modules) if not is_module_of(crate, it))
+    yield from (f"rows/{name}" + f"::{case}" * bool(case) for name, case in CASES.findall(tests) if not has_case(name, case))
     yield from (it for it in re.findall(r"`((?:bench|tests/outside|tools)/[\w.]+)`", tests) if not (TOP / it).is_file())
     for crate, names in EDITS.findall(edits):
         yield from (f"{crate}: `{it}`{by_hand}" for it, by_hand in EDIT.findall(names) if not edit_file(crate, it, by_hand).is_file())
@@ -101,7 +110,7 @@ def traced():
 
 
 def left():
-    """Prints the wrong bodies and test modules that no row names."""
+    """Prints the wrong bodies, test modules and files of cases that no row names."""
     named = {(crate, it) for row in rows() for cell in row[3:] for crate, names in EDITS.findall(cell) + NAMED.findall(cell) for it in QUOTED.findall(names)}
     for crate in sorted(it for it in CRATES.iterdir() if it.is_dir()):
         tests = crate.rglob("src/**/*.rt") if crate.name.startswith("tests_") else []
@@ -110,6 +119,9 @@ def left():
         for name, path in sorted(files.items()):
             if (crate.name, name) not in named:
                 print(path.relative_to(TOP))
+    cases = {name for row in rows() for name, _ in CASES.findall(row[3])}
+    for path in sorted(it for it in (TOP / "tests/rows").glob("*.rows") if it.stem not in cases):
+        print(path.relative_to(TOP))
 
 
 if __name__ == "__main__":
