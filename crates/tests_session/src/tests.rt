@@ -12,7 +12,6 @@ mod refusals;
 mod scripts;
 mod serving;
 mod showing;
-mod spool;
 mod spools;
 mod stopping;
 mod updating;

@@ -5,7 +5,7 @@ use crate::tests::helpers::{answers, formatted};
 use crate::tests::serving::served;
 use crate::tests::spools::{Page, Paper, ROOM, page_of, script_of};
 use cc_session::SessionEnd;
-use cc_spool::{MemorySpool, fault_lines, frame, source_in};
+use cc_spool::MemorySpool;
 use std::alloc::Global;
 use std::sync::Wait;
 use std::test::Fail;
@@ -108,49 +108,5 @@ fn texts_without_room(rt: HostRuntime) -> Result<(), Fail> {
     assert!(rt; is_served(&rt, alloc, source, 20, b"ok 1\n", Some(54))?);
     let lines = b"ok 1\nsource 16\nint main(void){}\nunit a\nok 3\n".as_slice();
     assert!(rt; is_served(&rt, alloc, source, ROOM, lines, None)?);
-    Ok(())
-}
-
-// Whether a source is found in its frame, but not if the frame lacks its last byte or if a line follows it.
-fn is_framed(alloc: Global, source: &[u8]) -> Result<bool, Fail> {
-    if source.len() > 65_536 {
-        return Ok(false);
-    }
-    let text = frame(alloc, source)?;
-    let (Some((_, cut)), Some(whole)) = (
-        text.as_slice().split_last(),
-        source_in(alloc, text.as_slice())?,
-    ) else {
-        return Ok(false);
-    };
-    let mut more = Vec::new(alloc);
-    more.extend_from_slice(text.as_slice())?;
-    more.extend_from_slice(b"fault 55 Interrupted\n")?;
-    let is_alone = source_in(alloc, cut)?.is_none() && source_in(alloc, more.as_slice())?.is_none();
-    let none = fault_lines(alloc, text.as_slice())?;
-    let one = fault_lines(alloc, cut)?;
-    let two = fault_lines(alloc, more.as_slice())?;
-    let interrupted = b"fault 55 Interrupted\n".as_slice();
-    let is_told = none.is_empty() && one.as_slice() == interrupted && two.as_slice() == interrupted;
-    Ok(is_alone && is_told && whole == source)
-}
-
-#[test]
-fn frames(rt: HostRuntime) -> Result<(), Fail> {
-    let alloc = rt.alloc();
-    assert!(rt;
-        frame(alloc, b"int main(void){}")?.as_slice() == b"source 16\nint main(void){}\n".as_slice()
-    );
-    for source in ["", "\n", "fault 1 x", "\nfault 1 x\n", "source 3\n", TABLE] {
-        assert!(rt; is_framed(alloc, source.as_bytes())?, "for {source}");
-    }
-    let mut longest = Vec::new(alloc);
-    for i in 0..65_536usize {
-        longest.push((i % 256) as u8)?;
-    }
-    assert!(rt; is_framed(alloc, longest.as_slice())?);
-    let refused = b"fault 32 Absent\n".as_slice();
-    assert!(rt; source_in(alloc, refused)?.is_none());
-    assert!(rt; fault_lines(alloc, refused)?.as_slice() == refused);
     Ok(())
 }

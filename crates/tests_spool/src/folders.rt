@@ -1,7 +1,7 @@
 // A spool in a real folder: which things in `new` are scripts, what a start does with what a kill left, and when an answer is
 // replaced with 54.
 
-use crate::tests::spool::helpers::{
+use crate::helpers::{
     End, Folder, Meanwhile, answer, answer_one, begun, clears, counts, done, ends_so, is_answered,
     is_soon_awaited, must, put_as_written, recovered, renumber_one, second,
 };

@@ -1,6 +1,6 @@
 // What the log of a folder says, and that it says it later if it can't be written.
 
-use crate::tests::spool::helpers::{Folder, answer_read, answer_refused, must};
+use crate::helpers::{Folder, answer_read, answer_refused, must};
 use cc_spool::{FolderSpool, Spool};
 
 // A script, its answer, and what the log says about it.
