@@ -111,6 +111,7 @@ def plants():
         ("tour", changed("crates/cc_session/src/telling.rt", ("fn tell_change", "fn planted")), "`tell_change` is not in cc_session/src/telling.rt"),
         ("version", {"VERSION": "9.9.9\n"}, "VERSION and commands.rt"),
         ("help_texts", changed("docs/help.txt", ("\n\n", "\n\nplanted\n\n")), "./cclib --help"),
+        ("help_texts", changed("tests/rows/help.rows", ("\n> Commands:\n", "\n> Planted:\n")), "tests/rows/help.rows"),
         ("help_texts", changed("cclib", ('echo "cclib $(cat', 'echo "cclib 9$(cat')), "./cclib --version"),
         ("launcher", changed("cclib", ('is_taken "$@" || exit 2', 'case ${1-} in check | size) ;; esac')), "names commands in its code: check size"),
         ("launcher", changed("cclib", ('is_taken "$@" || exit 2', 'for word in trace; do :; done')), "names commands in its code: trace"),

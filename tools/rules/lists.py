@@ -37,10 +37,11 @@ def differ(where, one, other):
 
 
 def help_texts():
-    """What ./cclib says about itself without a build is what a test of tests_program requires of the program."""
-    test = read("crates/tests_program/src/help.rt")
-    wrong = differ("./cclib --help and HELP of tests_program", said("cclib", "--help"), found(r'^static HELP: &str = "\\\n(.*?)^";$', test))
-    return wrong + differ("./cclib --version and VERSION", said("cclib", "--version"), found(r'^static VERSION: &str = "(.*?)^";$', test))
+    """What ./cclib says about itself without a build is what cases of tests/rows/help.rows require of the program."""
+    cases = read("tests/rows/help.rows")
+    wanted = [re.sub("^> ?", "", found(rf"^\$ {option}\n((?:>[^\n]*\n)+)", cases), flags=re.M) for option in ("--help", "--version")]
+    wrong = differ("./cclib --help and tests/rows/help.rows", said("cclib", "--help"), wanted[0])
+    return wrong + differ("./cclib --version and tests/rows/help.rows", said("cclib", "--version"), wanted[1])
 
 
 def of_help():

@@ -1,7 +1,15 @@
-// Readers and writers that fail.
+// Readers, writers and disks that fail, and a fault that no known text has.
 
-use cc_task::Task;
-use cc_tasks::{perform, perform_and_explain};
+use cc_disk::{FuseDisk, FuseMode, MemoryDisk};
+use cc_journal::format;
+use cc_link::PieceFault;
+use cc_task::{Kind, Part, Task};
+use cc_tasks::{
+    Fault, PartFault, perform, perform_and_explain, perform_and_explain_stages, perform_stages,
+    take_out,
+};
+use std::alloc::Global;
+use std::test::Fail;
 use tests_texts::streams::{FailsBehind, Refuses};
 
 fn says_that_a_read_failed<H: AllocGlobal>(rt: &H) -> bool {
@@ -57,4 +65,96 @@ fn is_done_without_explanation<H: AllocGlobal>(rt: &H) -> bool {
 #[test]
 fn an_explanation_that_fails(rt: HostRuntime) {
     assert!(rt; is_done_without_explanation(&rt));
+}
+
+#[test]
+fn a_read_of_stages_that_fails(rt: HostRuntime) {
+    let mut reader = FailsBehind {
+        bytes: b"".as_slice(),
+    };
+    let mut written = Vec::new(rt.alloc());
+    let status = perform_stages(&rt, Kind::Plain, None, &mut reader, &mut written);
+    assert!(rt; status == 1 && written.as_slice() == b"fault 53 ReadFault\n".as_slice());
+}
+
+#[test]
+fn a_write_of_stages_that_fails(rt: HostRuntime) {
+    let mut reader = b"int main(void){}".as_slice();
+    let mut writer = Refuses;
+    let mut told = Vec::new(rt.alloc());
+    let status = perform_and_explain_stages(
+        &rt,
+        Kind::Plain,
+        None,
+        &mut reader,
+        &mut writer,
+        &mut told,
+    );
+    assert!(rt;
+        status == 1 && told.as_slice() == b"cclib: the answer could not be written\n".as_slice()
+    );
+}
+
+// A formatted disk with two areas of 1,024 bytes.
+fn formatted(alloc: Global) -> Result<MemoryDisk, Fail> {
+    let mut disk = MemoryDisk::new(alloc, 16 + 2 * 1024)?;
+    format(&mut disk, 1024)?;
+    Ok(disk)
+}
+
+// The number of the fault, or 0 if there is none.
+fn refusal(found: Result<Vec<u8>, PartFault>) -> u32 {
+    match found {
+        Ok(bytes) => {
+            drop(bytes);
+            0
+        }
+        Err(fault) => fault.number(),
+    }
+}
+
+// The opening comes first, before a refusal of bytes that are no name.
+#[test]
+fn a_part_of_a_disk_that_fails(rt: HostRuntime) -> Result<(), Fail> {
+    let alloc = rt.alloc();
+    let disk = FuseDisk::new(formatted(alloc)?, 0, FuseMode::Once);
+    let mut told = Vec::new(alloc);
+    let (found, disk) = take_out(alloc, disk, b"A", Part::Image, &mut told);
+    drop(disk);
+    assert!(rt; refusal(found) == 35 && told.is_empty());
+    Ok(())
+}
+
+#[test]
+fn an_explanation_of_a_part_that_fails(rt: HostRuntime) -> Result<(), Fail> {
+    let mut told = Refuses;
+    let (found, disk) = take_out(
+        rt.alloc(),
+        formatted(rt.alloc())?,
+        b"b",
+        Part::Image,
+        &mut told,
+    );
+    drop(disk);
+    assert!(rt; refusal(found) == 32);
+    Ok(())
+}
+
+// No text is known in which the compiler's validator refuses a function, so the fault is made by hand, for the second function
+// here.
+#[test]
+fn a_function_that_is_not_validated(rt: HostRuntime) {
+    let text = b"int f(int x){return x;}int main(void){}".as_slice();
+    let fault = Fault::Piece(PieceFault::Unvalidated {
+        at: 27,
+        length: 4,
+        label: 7,
+    });
+    let mut line = Vec::new(rt.alloc());
+    let written = fault.write_line(text, &mut line);
+    let right = written.is_ok()
+        && fault.number() == 24
+        && line.as_slice() == b"fault 24 Unvalidated in main at label 7\n".as_slice();
+    drop(fault);
+    assert!(rt; right);
 }

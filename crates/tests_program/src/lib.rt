@@ -1,50 +1,16 @@
-//! Tests of the program's work: texts at their limits, texts that are refused, small programs, images as
-//! text, stages, what is taken out of a library, command lines, what is explained, counts, and failing
-//! readers and writers. All readers, writers and disks are in memory. Expected lines come from the language's
-//! rules, worked by hand.
+//! Tests of the program's work that no case of tests/rows can be: readers, writers and disks that fail, what a terminal shows, which descriptors
+//! are taken, what a command line asks for and no answer shows, and each prefix of a text. All readers, writers and disks are in memory.
 #![tactic(auto)]
 
 #[cfg(test)]
-mod checked;
-#[cfg(test)]
-mod counts;
-#[cfg(test)]
 mod descriptors;
-#[cfg(test)]
-mod explanations;
 #[cfg(test)]
 mod faulty;
 #[cfg(test)]
-mod files;
-#[cfg(test)]
-mod help;
-#[cfg(test)]
-mod helpers;
-#[cfg(test)]
-mod hostile;
-#[cfg(test)]
 mod images;
 #[cfg(test)]
-mod limits;
-#[cfg(test)]
-mod parts;
-#[cfg(test)]
-mod programs;
-#[cfg(test)]
-mod refusals;
-#[cfg(test)]
-mod safety;
+mod prefixes;
 #[cfg(test)]
 mod screens;
-#[cfg(test)]
-mod sizes;
-#[cfg(test)]
-mod spools;
-#[cfg(test)]
-mod stages;
-#[cfg(test)]
-mod taking;
-#[cfg(test)]
-mod watched;
 #[cfg(test)]
 mod words;
