@@ -143,7 +143,7 @@ def plants():
         ("pictures", changed("crates/cc_journal/src/log.rt", ("ensures moments", "ensures planted")), "append has no clause moments"),
         ("traced", changed("docs/TRACE.md", ("(`sized`)", "(`planted`)")), "`size_in` of `cc_size` (`planted`) is not there"),
         ("traced", changed("docs/TRACE.md", ("`tests_link`: `checked`", "`tests_link`: `planted`")), "tests_link: `planted` is not there"),
-        ("traced", changed("tests/rows/submitted.rows", ("\n= a-call-with-its-words\n", "\n= planted\n")), "rows/submitted::a-call-with-its-words is not there"),
+        ("traced", changed("tests/rows/served.rows", ("\n= two-updates-from-the-same-source\n", "\n= planted\n")), "rows/served::two-updates-from-the-same-source is not there"),
         ("traced", changed("docs/TRACE.md", ("`rows/submitted`", "`rows/planted`")), "rows/planted is not there"),
         ("traced", changed("docs/TRACE.md", ("`cc_log`: `a_log", "`cc_log`: `planted_a_log")), "cc_log: `planted_a_log"),
         ("traced", changed("docs/FIT.md", ("`run_counted` of", "`planted` of")), "docs/FIT.md: `planted` of `cc_runs` is not there"),

@@ -1,10 +1,7 @@
-//! Tests of sessions, from outside: scripts with their answers, scripts that are refused, streams and disks that fail.
+//! Tests of sessions and of servers that no case of tests/rows can be: streams and disks that fail, many clients at once, and generations.
 //!
-//! `helpers` runs a script on a formatted disk, `scripts` has the worked scripts, `audits` those that audit, `earlier` a library
-//! of before selection, `refusals` what is refused, `failing` readers and writers that fail, `hints` sources that are handed in
-//! before their turn, `files` a library in a file, `spools` scripts of several clients, `serving` many clients at once,
-//! `generations` one service after the other, `stopping` scripts that end while others wait, `showing` images and sources of
-//! units, `updating` the lines that compare, audit or run one unit, or measure an area.
+//! `helpers` runs a script on a formatted disk, `failing` has readers, writers and disks that fail, `spools` scripts of several clients, `serving`
+//! many clients at once, `generations` one service after the other, `stopping` scripts that end while others wait, `names` the names of faults.
 #![tactic(auto)]
 
 #[cfg(test)]

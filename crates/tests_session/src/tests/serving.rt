@@ -9,7 +9,7 @@ use cc_disk::MemoryDisk;
 use cc_link::Mode;
 use cc_session::{BOUNDS, NoGate, NoSteward, Served, SessionEnd, serve};
 use cc_spool::MemorySpool;
-use std::alloc::{AllocError, Global};
+use std::alloc::Global;
 use std::io;
 use std::sync::Wait;
 use std::test::Fail;
@@ -73,26 +73,6 @@ fn three_clients_with_forty_scripts(rt: HostRuntime) -> Result<(), Fail> {
     Ok(())
 }
 
-// `count` empty lines, then `end`.
-fn blank(alloc: Global, count: usize, end: &[u8]) -> Result<Vec<u8>, AllocError> {
-    let mut bytes = Vec::with_capacity(alloc, count)?;
-    for _ in 0..count {
-        bytes.push(b'\n')?;
-    }
-    bytes.extend_from_slice(end)?;
-    Ok(bytes)
-}
-
-// The answers to `count` empty lines, then `end`.
-fn refused(alloc: Global, count: usize, end: &[u8]) -> Result<Vec<u8>, AllocError> {
-    let mut lines = Vec::new(alloc);
-    for _ in 0..count {
-        lines.extend_from_slice(b"fault 50 BadLine\n")?;
-    }
-    lines.extend_from_slice(end)?;
-    Ok(lines)
-}
-
 /// A script, whether it is torn, and the room for its answer; its answer, and the fault that ends it.
 type Case<'a> = (&'a [u8], bool, usize, &'a [u8], Option<u32>);
 
@@ -120,18 +100,10 @@ where
     Ok(right)
 }
 
-// 51, 52 or 53 ends only its own script: the next script is answered as if there had been no fault. 52 comes after 65,536 lines,
-// not counting sources.
+// 51 or 53 ends only its own script: the next script is answered as if there had been no fault.
 #[test]
 fn a_fault_ends_its_script_alone(rt: HostRuntime) -> Result<(), Fail> {
-    let alloc = rt.alloc();
-    let many = blank(alloc, 65_535, b"add b 16\nint main(void){}\n\n")?;
-    let more = blank(alloc, 65_536, b"add a 99\nint")?;
-    let all = blank(alloc, 65_536, b"")?;
-    let too_many = refused(alloc, 65_535, b"ok 2\nfault 52 ScriptTooLong\n")?;
-    let too_more = refused(alloc, 65_536, b"fault 52 ScriptTooLong\n")?;
-    let enough = refused(alloc, 65_536, b"")?;
-    let cases: [Case<'_>; 8] = [
+    let cases: [Case<'_>; 4] = [
         (
             b"add a 99\nint main(v",
             false,
@@ -146,27 +118,24 @@ fn a_fault_ends_its_script_alone(rt: HostRuntime) -> Result<(), Fail> {
             b"ok 1\n",
             None,
         ),
-        (many.as_slice(), false, ROOM, too_many.as_slice(), Some(52)),
-        (b"list\n", false, ROOM, b"unit a\nunit b\nok 3\n", None),
-        (more.as_slice(), false, ROOM, too_more.as_slice(), Some(52)),
         (
             b"list\nadd c 16\nint ma",
             true,
             ROOM,
-            b"unit a\nunit b\nok 4\nfault 53 ReadFault\n",
+            b"unit a\nok 2\nfault 53 ReadFault\n",
             Some(53),
         ),
         (b"run a 1000\n", false, ROOM, b"exited 0\n", None),
-        (all.as_slice(), false, ROOM, enough.as_slice(), None),
     ];
-    assert!(rt; are_answered(&rt, alloc, cases.as_slice())?);
+    assert!(rt; are_answered(&rt, rt.alloc(), cases.as_slice())?);
     Ok(())
 }
 
-// One answer has no room for a line; another has no room for the line of the fault itself.
+// One answer has no room for a line, another none for the line of the fault itself, and others none for an image or a source.
 #[test]
 fn an_answer_without_room(rt: HostRuntime) -> Result<(), Fail> {
-    let cases: [Case<'_>; 3] = [
+    let refused = b"fault 50 BadLine\n".as_slice();
+    let cases: [Case<'_>; 5] = [
         (
             b"add a 16\nint main(void){}\nlist\n",
             false,
@@ -175,7 +144,9 @@ fn an_answer_without_room(rt: HostRuntime) -> Result<(), Fail> {
             Some(54),
         ),
         (b"add a 99\nint", false, 0, b"", Some(54)),
-        (b"list\n", false, ROOM, b"unit a\nok 3\n", None),
+        (b"hello\nimage a\nlist\n", false, 20, refused, Some(54)),
+        (b"hello\nsource a\nlist\n", false, 20, refused, Some(54)),
+        (b"list\n", false, ROOM, b"unit a\nok 5\n", None),
     ];
     assert!(rt; are_answered(&rt, rt.alloc(), cases.as_slice())?);
     Ok(())
