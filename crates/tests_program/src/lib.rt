@@ -13,4 +13,8 @@ mod prefixes;
 #[cfg(test)]
 mod screens;
 #[cfg(test)]
+mod unwritten;
+#[cfg(test)]
+mod watches;
+#[cfg(test)]
 mod words;
