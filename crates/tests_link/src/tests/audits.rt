@@ -88,18 +88,6 @@ static TEXTS: [&str; 6] = [
     LONG,
 ];
 
-fn is_confirmed_as_compiled(alloc: Global, text: &&'static str) -> Result<bool, Fail> {
-    let unit = compile(alloc, text.as_bytes())?;
-    let right = is_confirmed(alloc, unit.stored());
-    drop(unit);
-    right
-}
-
-#[test]
-fn what_was_compiled(rt: HostRuntime) -> Result<(), Fail> {
-    each_passes(rt.alloc(), TEXTS.as_slice(), is_confirmed_as_compiled)
-}
-
 // Whether an audit refuses the unit if the word of code at this place is changed.
 fn refuses_word(alloc: Global, unit: &StoredUnit, place: usize) -> Result<bool, Fail> {
     let mut code = Vec::from_slice(alloc, unit.image.code.words())?;

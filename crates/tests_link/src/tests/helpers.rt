@@ -1,10 +1,18 @@
-// Compiles a text, and runs its image.
+// Runs of images.
 
-use cc_link::{CompiledUnit, compile};
+use cc_link::CompiledUnit;
 use cc_rv32::machine::Machine;
 use cc_rv32::outcome::MachineOutcome;
 use std::alloc::Global;
 use std::test::Fail;
+
+/// A program that writes two quotients.
+pub const QUOTIENTS: &str = "int main(void){write_word(-7/2);write_word(-7%2);return 0;}";
+
+/// The words from 1 to 24.
+pub const WORDS: &[u32] = &[
+    1, 2, 3, 4, 5, 6, 7, 8, 9, 10, 11, 12, 13, 14, 15, 16, 17, 18, 19, 20, 21, 22, 23, 24,
+];
 
 /// A run: its input, the largest number of instructions to execute, the words that it writes, and its
 /// outcome.
@@ -42,14 +50,4 @@ pub fn image_runs(alloc: Global, unit: &CompiledUnit, run: Run<'_>) -> Result<bo
     let same = are_words(machine.output(), run.words);
     drop(machine);
     Ok(same && outcome? == run.outcome)
-}
-
-/// Whether a text has an image with this run, and its unit has the text as its source, and a certificate.
-pub fn runs(alloc: Global, text: &[u8], run: Run<'_>) -> Result<bool, Fail> {
-    let unit = compile(alloc, text)?;
-    let stored = unit.stored();
-    let kept = stored.source.bytes() == text && stored.certificate.is_some();
-    let right = image_runs(alloc, &unit, run);
-    drop(unit);
-    Ok(right? && kept)
 }

@@ -1,93 +1,14 @@
 // What is at a limit, and what exceeds it.
 
-use super::helpers::{Run, ends_well, image_runs, runs};
-use super::numbered::{deep, many};
+use super::helpers::{Run, WORDS, ends_well, image_runs};
 use super::padded::{blocks, padded};
-use super::rows::WORDS;
 use cc_link::{CompiledUnit, LinkFault, typed_unit};
-use cc_rv32::outcome::MachineOutcome;
 use cc_types::TypedUnit;
 use std::alloc::Global;
 use std::sync::Arc;
 use std::test::Fail;
-use tests_texts::parts::{main_of, text_of};
-use tests_texts::verdict::{each_passes, passes};
+use tests_texts::verdict::passes;
 use tests_texts::worked::LONG;
-
-// Whether a text writes only this word, without input and within this many instructions, and ends with 0.
-fn writes_one(alloc: Global, text: Vec<u8>, word: i32, steps: u64) -> Result<bool, Fail> {
-    let words = [word];
-    let run = ends_well(&[], steps, words.as_slice());
-    let right = runs(alloc, text.as_slice(), run);
-    drop(text);
-    right
-}
-
-// 1,023 nested calls of `f`, and `main`: f(n) = f(n - 1) + 250 n + 31,125 and f(0) = 7, so f(1022) is 7 + 250 * 522,753 +
-// 31,125 * 1,022.
-#[test]
-fn most_calls_with_large_frames(rt: HostRuntime) -> Result<(), Fail> {
-    let text = deep(rt.alloc())?;
-    passes(writes_one(rt.alloc(), text, 162_498_007, 100_000_000))
-}
-
-// The sum of 1 to 63.
-#[test]
-fn most_functions(rt: HostRuntime) -> Result<(), Fail> {
-    let text = many(rt.alloc())?;
-    passes(writes_one(rt.alloc(), text, 2_016, 100_000))
-}
-
-/// Loops that never end, and how many instructions of each are executed.
-type Endless = (&'static str, u64);
-
-static ENDLESS: [Endless; 8] = [
-    ("int main(void){for(;;);}", 1000),
-    ("int main(void){for(;;);}", 1_000_000),
-    ("int main(void){for(;;);write_word(1);}", 1_000_000),
-    ("int main(void){while(1){}return 5;}", 1_000_000),
-    ("int main(void){do;while(1);}", 1_000_000),
-    ("int main(void){for(;;)continue;}", 1_000_000),
-    ("int main(void){for(;;)for(;;);}", 1_000_000),
-    ("int f(void){for(;;);}int main(void){f();}", 1_000_000),
-];
-
-fn goes_on(alloc: Global, row: &Endless) -> Result<bool, Fail> {
-    let run = Run {
-        input: &[],
-        steps: row.1,
-        words: &[],
-        outcome: MachineOutcome::Going,
-    };
-    runs(alloc, row.0.as_bytes(), run)
-}
-
-#[test]
-fn endless_loops(rt: HostRuntime) -> Result<(), Fail> {
-    each_passes(rt.alloc(), ENDLESS.as_slice(), goes_on)
-}
-
-static ZEROS: [i32; 1_364] = [0; 1_364];
-
-/// How often `write_word(0);` and then `read_word();` occur in `main`. In the last row `main` has exactly 4,096 nodes, the most
-/// that a function may have.
-type Main = (usize, usize);
-
-static MAINS: [Main; 3] = [(1_000, 0), (1_364, 0), (1_364, 1)];
-
-#[test]
-fn long_functions(rt: HostRuntime) -> Result<(), Fail> {
-    each_passes(rt.alloc(), MAINS.as_slice(), writes_zeros)
-}
-
-// Whether `main` writes this many zeros.
-fn writes_zeros(alloc: Global, row: &Main) -> Result<bool, Fail> {
-    let text = text_of(alloc, &main_of(row.0, row.1))?;
-    let run = ends_well(&[], 1_000_000, &ZEROS[..row.0.min(1_364)]);
-    let right = runs(alloc, text.as_slice(), run);
-    drop(text);
-    right
-}
 
 // How many words of code the linked image has, and whether it has this run, or `None` if the image is too large.
 fn words_of(

@@ -1,7 +1,6 @@
 // The pieces of a unit, linked in every order, and wrong lists of pieces.
 
-use super::helpers::{Run, ends_well, image_runs};
-use super::rows::{QUOTIENTS, WORDS};
+use super::helpers::{QUOTIENTS, Run, WORDS, ends_well, image_runs};
 use cc_emit::Piece;
 use cc_link::{CompiledUnit, LinkFault, compile_function, link, link_lent, typed_unit};
 use cc_rv32::outcome::MachineOutcome;

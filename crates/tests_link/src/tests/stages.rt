@@ -1,17 +1,10 @@
 // What is shown of a unit's functions, stage by stage.
-//
-// `row` has the texts of one program.
-
-#[cfg(test)]
-mod row;
 
 use cc_link::{Mode, compile, typed_unit};
 use cc_rv32::listing::list;
 use cc_stages::{StagesFault, stages};
-use row::ROW;
 use std::alloc::{AllocError, Global};
 use std::test::Fail;
-use tests_texts::parts::{Part, text_of};
 use tests_texts::programs::{CRC, FIB, GCD, MATMUL, NEST, REGS, SIEVE, SORT};
 use tests_texts::verdict::{each_passes, passes};
 use tests_texts::worked::LONG;
@@ -20,45 +13,19 @@ use tests_texts::worked::LONG;
 const FORMS: &str =
     "unsigned char c[2];int a[3];int f(int n,int k){do n=n+1;while(n>=k);do a[n&1]=c[1];while(n<=0);c[0]=a[2];c[0]=c[k-8];a[k-7]=n;if(n<k)return n<<3;return -n;}int main(void){write_word(f(read_word(),9));}";
 
-/// The steps of the function in `FORMS`. Each constant is in the operation that reads it. An access to an element with a
-/// known index has the index; an access whose index is a register minus a constant has the register and the constant's
-/// negative. A comparison and the test of its value are one branch.
-const FORMS_SELECTED: &str = "== f: Selected
-f0 slots 0
-1:
-  x10 = add x10, 1
-  branch not lt_s x10, x11 -> 1
-6:
-  x28 = and x10, 1
-  x29 = byte object0[1]
-  object1[x28] = x29
-  branch le_s x10, 0 -> 6
-  x28 = object1[2]
-  byte object0[0] = x28
-  x28 = byte object0[x11 + 4294967288]
-  byte object0[0] = x28
-  object1[x11 + 4294967289] = x10
-  branch lt_s x10, x11 -> 29
-  x10 = neg x10
-  return
-29:
-  x10 = shl x10, 3
-  return
-";
-
 static PROGRAMS: [&str; 10] = [LONG, FORMS, CRC, FIB, GCD, MATMUL, NEST, REGS, SIEVE, SORT];
 
-// What is written about the functions of a text, or about one of them, and the number of the fault, or 0 if there is none.
+// What is written about the functions of a text, and the number of the fault, or 0 if there is none.
 #[derive(Drop)]
 struct Written {
     text: Vec<u8>,
     number: u32,
 }
 
-fn shown(alloc: Global, text: &[u8], function: Option<&[u8]>) -> Result<Written, Fail> {
+fn shown(alloc: Global, text: &[u8]) -> Result<Written, Fail> {
     let unit = typed_unit(alloc, text)?;
     let mut written = Vec::new(alloc);
-    let number = match stages(alloc, Mode::Plain, &unit, function, &mut written) {
+    let number = match stages(alloc, Mode::Plain, &unit, None, &mut written) {
         Ok(()) => 0,
         Err(fault) => {
             let number = fault.number();
@@ -76,52 +43,6 @@ fn shown(alloc: Global, text: &[u8], function: Option<&[u8]>) -> Result<Written,
 // Adds a text after another.
 fn add(text: &mut Vec<u8>, part: &str) -> Result<(), AllocError> {
     text.extend_from_slice(part.as_bytes())
-}
-
-// The stages in `ROW`, of all functions or of one.
-fn row_text(alloc: Global, function: &str) -> Result<Vec<u8>, AllocError> {
-    let mut text = Vec::new(alloc);
-    for (name, stage, lines) in ROW.iter() {
-        if function.is_empty() || *name == function {
-            add(&mut text, "== ")?;
-            add(&mut text, name)?;
-            add(&mut text, ": ")?;
-            add(&mut text, stage)?;
-            add(&mut text, "\n")?;
-            for part in lines.iter() {
-                add(&mut text, part)?;
-            }
-        }
-    }
-    Ok(text)
-}
-
-// Whether the stages that are shown are those of `ROW`, of all functions (an empty name) or of one.
-fn shows_row(alloc: Global, function: &&'static str) -> Result<bool, Fail> {
-    let wanted = match *function {
-        "" => None,
-        name => Some(name.as_bytes()),
-    };
-    let found = shown(alloc, LONG.as_bytes(), wanted)?;
-    let lines = row_text(alloc, function)?;
-    let right = found.number == 0 && found.text.as_slice() == lines.as_slice();
-    drop(found);
-    drop(lines);
-    Ok(right)
-}
-
-#[test]
-fn texts_of_the_row(rt: HostRuntime) -> Result<(), Fail> {
-    each_passes(rt.alloc(), &["", "f", "main"], shows_row)
-}
-
-#[test]
-fn each_form_of_step(rt: HostRuntime) -> Result<(), Fail> {
-    let found = shown(rt.alloc(), FORMS.as_bytes(), Some(b"f"))?;
-    let text = str::from_utf8(found.text.as_slice())?;
-    let right = found.number == 0 && text.contains(FORMS_SELECTED);
-    drop(found);
-    passes(Ok(right))
 }
 
 // The labels of a stage: those that its code leads to, and those that its lines begin with.
@@ -186,7 +107,7 @@ fn stages_lacking_labels(alloc: Global, text: &str) -> Result<(usize, usize), Fa
 }
 
 fn all_labels_stand(alloc: Global, program: &&'static str) -> Result<bool, Fail> {
-    let found = shown(alloc, program.as_bytes(), None)?;
+    let found = shown(alloc, program.as_bytes())?;
     let text = str::from_utf8(found.text.as_slice())?;
     let (count, lacking) = stages_lacking_labels(alloc, text)?;
     drop(found);
@@ -229,7 +150,7 @@ fn behind_start(listing: &[u8]) -> &[u8] {
 
 // Whether the code in the stages of a program is the same as the listing of its image.
 fn code_is_listing(alloc: Global, program: &&'static str) -> Result<bool, Fail> {
-    let found = shown(alloc, program.as_bytes(), None)?;
+    let found = shown(alloc, program.as_bytes())?;
     let lines = code_lines(alloc, str::from_utf8(found.text.as_slice())?)?;
     let unit = compile(alloc, program.as_bytes())?;
     let listing = list(alloc, &unit.stored().image)?;
@@ -245,46 +166,6 @@ fn code_is_listing(alloc: Global, program: &&'static str) -> Result<bool, Fail> 
 #[test]
 fn all_code_is_the_listing(rt: HostRuntime) -> Result<(), Fail> {
     each_passes(rt.alloc(), PROGRAMS.as_slice(), code_is_listing)
-}
-
-fn is_unknown(alloc: Global, name: &&'static str) -> Result<bool, Fail> {
-    let found = shown(alloc, LONG.as_bytes(), Some(name.as_bytes()))?;
-    let right = found.number == 59 && found.text.is_empty();
-    drop(found);
-    Ok(right)
-}
-
-#[test]
-fn unknown_names(rt: HostRuntime) -> Result<(), Fail> {
-    let names = ["g", "", "mai", "main1", "write_word", "x"];
-    each_passes(rt.alloc(), &names, is_unknown)
-}
-
-/// The parts of a text whose `main` would have more than 4,096 nodes.
-static LARGE: [Part<'static>; 3] = [
-    ("int f(int x){return x;}int main(void){", 1),
-    ("write_word(0);", 1_365),
-    ("}", 1),
-];
-
-// Whether the stages of the functions of `LARGE`, or of one of them, end with `end` and fault 22.
-fn ends_large(alloc: Global, function: Option<&[u8]>, end: &str) -> Result<bool, Fail> {
-    let text = text_of(alloc, LARGE.as_slice())?;
-    let found = shown(alloc, text.as_slice(), function);
-    drop(text);
-    let found = found?;
-    let right = found.number == 22 && found.text.as_slice().ends_with(end.as_bytes());
-    drop(found);
-    Ok(right)
-}
-
-#[test]
-fn a_function_with_too_many_nodes(rt: HostRuntime) -> Result<(), Fail> {
-    let refused = "  v0 = 0\n== main: RTL\nrefused: more than 4096 nodes\n";
-    let other = "  return\n== f: code\nnone: the program has no image\n";
-    passes(ends_large(rt.alloc(), None, refused))?;
-    passes(ends_large(rt.alloc(), Some(b"main"), refused))?;
-    passes(ends_large(rt.alloc(), Some(b"f"), other))
 }
 
 #[test]
