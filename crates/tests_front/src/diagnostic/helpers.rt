@@ -1,9 +1,7 @@
 // The messages about a text, as they are written.
 
-use cc_diagnostic::{Diagnostic, further_of_typing, of_syntax, of_typing, warnings};
-use cc_meaning::{Stop, interpret};
-use cc_run_diagnostic::of_wrong;
-use cc_syntax::{Unit, parse};
+use cc_diagnostic::{Diagnostic, further_of_typing, of_typing};
+use cc_syntax::parse;
 use cc_types::TypeFault;
 use cc_typing::check;
 use std::alloc::{AllocError, Global};
@@ -24,31 +22,6 @@ pub fn written(
         }
     }
     Ok(lines)
-}
-
-// The warnings about a text that is a program.
-fn warned(alloc: Global, text: &[u8]) -> Result<Vec<u8>, AllocError> {
-    let list = warnings(alloc, text)?;
-    let mut lines = Vec::new(alloc);
-    for diagnostic in list.as_slice() {
-        let _ = diagnostic.write(text, &mut lines);
-    }
-    drop(list);
-    Ok(lines)
-}
-
-fn of_unit(alloc: Global, text: &[u8], unit: Unit) -> Result<Vec<u8>, AllocError> {
-    match check(alloc, unit) {
-        Ok(typed) => {
-            drop(typed);
-            warned(alloc, text)
-        }
-        Err(fault) => {
-            let told = of_typing(alloc, text, &fault);
-            drop(fault);
-            written(alloc, text, told?)
-        }
-    }
 }
 
 // The diagnostics for a fault of a tree, and for the faults after it.
@@ -86,60 +59,4 @@ pub fn errors_of(alloc: Global, text: &[u8]) -> Result<Vec<Diagnostic>, AllocErr
             Ok(Vec::new(alloc))
         }
     }
-}
-
-/// The message about the first fault of a text, or the warnings if it is a program.
-pub fn told_of(alloc: Global, text: &[u8]) -> Result<Vec<u8>, AllocError> {
-    match parse(alloc, text) {
-        Ok(unit) => of_unit(alloc, text, unit),
-        Err(fault) => {
-            let told = of_syntax(alloc, text, &fault);
-            drop(fault);
-            written(alloc, text, Some(told?))
-        }
-    }
-}
-
-/// Whether this is the message about the first fault of a text.
-pub fn tells(alloc: Global, text: &[u8], told: &[u8]) -> bool {
-    match told_of(alloc, text) {
-        Ok(found) => found.as_slice() == told,
-        Err(_) => false,
-    }
-}
-
-// How a program's run ends on these words of input, within this many steps, or `None` if the text is not a program.
-fn stop_of(alloc: Global, text: &[u8], input: &[u32], steps: u64) -> Option<Stop> {
-    let unit = parse(alloc, text).ok()?;
-    let typed = check(alloc, unit).ok()?;
-    let outcome = interpret(alloc, &typed, input, steps);
-    drop(typed);
-    match outcome {
-        Ok(outcome) => Some(outcome.stop),
-        Err(fault) => {
-            drop(fault);
-            None
-        }
-    }
-}
-
-/// The message about a run of a text that goes wrong, or nothing if it does not.
-pub fn told_of_run(
-    alloc: Global,
-    text: &[u8],
-    input: &[u32],
-    steps: u64,
-) -> Result<Vec<u8>, AllocError> {
-    match stop_of(alloc, text, input, steps) {
-        Some(Stop::Wrong(cause)) => {
-            let told = of_wrong(alloc, text, input, steps, cause)?;
-            written(alloc, text, told)
-        }
-        _ => Ok(Vec::new(alloc)),
-    }
-}
-
-/// Whether the words occur among the bytes.
-pub fn has(bytes: &[u8], words: &[u8]) -> bool {
-    words.is_empty() || bytes.windows(words.len()).any(|window| window == words)
 }
