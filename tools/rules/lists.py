@@ -37,10 +37,10 @@ def differ(where, one, other):
 
 
 def help_texts():
-    """What ./cclib says about itself without a build is what cases of tests/rows/help.rows require of the program."""
+    """What ./cclib says about itself without a build is what cases of tests/rows/help.rows require of the program; its own words follow."""
     cases = read("tests/rows/help.rows")
     wanted = [re.sub("^> ?", "", found(rf"^\$ {option}\n((?:>[^\n]*\n)+)", cases), flags=re.M) for option in ("--help", "--version")]
-    wrong = differ("./cclib --help and tests/rows/help.rows", said("cclib", "--help"), wanted[0])
+    wrong = differ("./cclib --help and tests/rows/help.rows", said("cclib", "--help").partition("\nIn the folder of its sources:\n")[0], wanted[0])
     return wrong + differ("./cclib --version and tests/rows/help.rows", said("cclib", "--version"), wanted[1])
 
 
