@@ -65,9 +65,9 @@ IsGoingOn image words steps = (done : ℕ) × (done < steps) × ((machine_behavi
 abbrev pub IsTooLong : Image → (words : List ℕ) (steps : ℕ) → Type 0
 IsTooLong image words steps = (done : ℕ) × (done ≤ steps) × (8388608 < length (machine_behavior image words done).output)
 
--- how the run of an image on these words came to its end: what the machine has written, and this outcome, are what the image does within the steps; or it was stopped, which is
--- possible only if `may_stop` is true, and the image is not at its end; or it was ended since it writes too much, which is possible
--- only if `is_short` is true
+-- how the run of an image on these words came to its end: what the machine has written, and this outcome, are what the image does
+-- within the steps; or it was stopped, which is possible only if `may_stop` is true, and the image is not at its end; or it was ended
+-- since it writes too much, which is possible only if `is_short` is true
 abbrev pub IsRunEnd : (may_stop is_short : Bool) → Image → (words : List ℕ) (steps : ℕ) → Simulation → RunEnd → Type 0
 IsRunEnd may_stop is_short image words steps machine (end.Done outcome) = machine_behavior image words steps ≡ record { outcome = outcome; output = machine.output }
 IsRunEnd may_stop is_short image words steps machine end.Stopped = (may_stop ≡ true) × IsGoingOn image words steps
