@@ -1229,6 +1229,25 @@ def run_words(place):
     must(most < 160, f"the server took {most} MiB")
 
 
+@attack("a line of 100,000,000 bytes to `call --lines`, and a short one after it")
+def call_lines(place):
+    """The long line is answered by 50 and not kept; the short one is answered as ever."""
+    more, disk = "int main(void){write_word(read_word()+1);return 0;}", f"{place.work}/units"
+    subprocess.run([place.program, "library", disk, "--format", AREA, "--quiet"], input=f"add more {len(more)}\n{more}\n", capture_output=True, text=True, check=True)
+    caller = place.launch([place.program, "call", disk, "more", "1000", "--lines"], stdin=subprocess.PIPE, text=False)
+    for _ in range(100):
+        caller.stdin.write(b"1 " * 500_000)
+    caller.stdin.write(b"\n7\n")
+    caller.stdin.flush()
+    lines = [caller.stdout.readline() for _ in range(5)]
+    with open(f"/proc/{caller.pid}/status") as file:
+        most = int(re.search(r"VmHWM:\s+(\d+)", file.read())[1]) >> 10
+    said = caller.communicate(timeout=60)[1]
+    must(lines == [b"fault 50 BadLine\n", b"\n", b"8\n", b"exited 0\n", b"\n"], f"the answers are {lines}")
+    must((caller.returncode, said) == (1, b"-:1:1: the line has more than 16777216 bytes\n"), f"the status is {caller.returncode}, with {said[-120:]!r}")
+    must(most < 64, f"the process took {most} MiB")
+
+
 # ---- 6: what `done` keeps
 
 
