@@ -1,28 +1,50 @@
 -- One line after another: one more line that was answered, and what became of all.
-use Rattle.std.proofs.Common.{◌≡◌, ◌≢◌, inl, inr, ◌∙◌, ℕ, ◌+◌, ◌-◌, ◌^◌, Bool, true, false, ◌||◌, IsTrue, List, [], ◌∷◌, ◌++◌, length, Option, Some, None, refl, sym, ap, subst, arith}
+use Rattle.std.proofs.Common.{◌≡◌, ◌≢◌, inl, inr, ◌∙◌, ℕ, ◌+◌, ◌-◌, ◌<◌, ◌^◌, Bool, true, false, ◌||◌, IsTrue, List, [], ◌∷◌, ◌++◌, length, Option, Some, None, refl, sym, ap, subst, arith}
 use Rattle.std.specs.Prelude.{IfSome}
 use Rattle.std.specs.List.{list_any}
 use Rattle.std.proofs.lemmas.List.Folds.{list_any-append}
 use Rattle.std.proofs.lemmas.Option.{none-some, same_Some}
 use Rattle.std.proofs.KnownBytes.{Appends-kept}
-use Rattle.std.specs.Io.KnownBytes.{Appends, Keeps}
-use Rattle.std.specs.Io.BufRead.{drop_through, first_piece, strip_last, take_through}
+use Rattle.std.specs.Io.KnownBytes.{Keeps}
+use Rattle.std.specs.Io.BufRead.{drop_through, first_piece}
 use Rattle.cc_rv32.specs.declared.image.Image.{Image}
 use Rattle.cc_call.specs.Call.{AnswersLine}
-use Rattle.cc_call.specs.Lines.{AnswersLines, CallsLines, LineTurn, is_bad, is_bad_end, is_lack, is_lack_end}
-use Rattle.cc_call.specs.internal.Reading.{IsNextLine, IsToldUnread, end_after}
+use Rattle.cc_call.specs.Lines.{AnswersBounded, AnswersLines, CallsLines, LineTurn, is_bad, is_bad_end, is_lack, is_lack_end}
+use Rattle.cc_call.specs.internal.Reading.{AnswersRead, IsNextLine, IsToldUnread, end_after}
 use Rattle.cc_call.specs.declared.lines.LineEnd.{LineEnd}
 use Rattle.cc_call.specs.declared.lines.LineEnd.TheVariants as line
 use Rattle.cc_call.specs.declared.lines.LinesEnd.{LinesEnd}
 use Rattle.cc_call.specs.declared.lines.LinesEnd.TheVariants.{Answered, Refused, Unwritten}
+use Rattle.cc_call.specs.declared.reading.ReadLine.{ReadLine}
+use Rattle.cc_call.specs.declared.reading.ReadLine.TheVariants.{Whole, TooLong}
 
 -- ---- one answer
 
 -- if a line was answered and the answer was then flushed, the line is answered
-pub answered_on : (image : Image) (counted : Bool) (steps : ℕ) (bytes : List ℕ) (a b c : Option (List ℕ)) (end : LineEnd) → AnswersLine image counted steps bytes a b end → Keeps b c → AnswersLine image counted steps bytes a c end
-answered_on image counted steps bytes a b c line.Answered it kept = (it.0, it.1, (it.2.0, it.2.1, Appends-kept a b c _ it.2.2 kept))
-answered_on image counted steps bytes a b c line.BadLine it kept = (it.0, Appends-kept a b c _ it.1 kept)
-answered_on image counted steps bytes a b c line.OutOfMemory it kept = Appends-kept a b c _ it kept
+flushed_on : (image : Image) (counted : Bool) (steps : ℕ) (bytes : List ℕ) (a b c : Option (List ℕ)) (end : LineEnd) → AnswersLine image counted steps bytes a b end → Keeps b c → AnswersLine image counted steps bytes a c end
+flushed_on image counted steps bytes a b c line.Answered it kept = (it.0, it.1, (it.2.0, it.2.1, Appends-kept a b c _ it.2.2 kept))
+flushed_on image counted steps bytes a b c line.BadLine it kept = (it.0, Appends-kept a b c _ it.1 kept)
+flushed_on image counted steps bytes a b c line.OutOfMemory it kept = Appends-kept a b c _ it kept
+
+-- the same if it may be too long
+pub answered_on : (image : Image) (counted : Bool) (steps : ℕ) (read : ReadLine) (bytes : List ℕ) (a b c : Option (List ℕ)) (end : LineEnd) → AnswersRead image counted steps read bytes a b end → Keeps b c
+    → AnswersRead image counted steps read bytes a c end
+answered_on image counted steps Whole bytes a b c end it kept = flushed_on image counted steps bytes a b c end it kept
+answered_on image counted steps TooLong bytes a b c end it kept = (it.0, Appends-kept a b c _ it.1 kept)
+
+-- no bytes have no line that is too long
+some_long : (input : List ℕ) → 16777216 < length (first_piece 10 input) → input ≢ []
+some_long input long none =
+    let short : 16777216 < length (first_piece 10 []) = subst (λ (l : List ℕ). 16777216 < length (first_piece 10 l)) none long in
+    omega (arith, short)
+
+-- if the first line of an input was read and answered, this is the answer to that line, and the bytes after it are left
+answered_first : (image : Image) (counted : Bool) (steps : ℕ) (read : ReadLine) (input bytes : List ℕ) (after mid new : Option (List ℕ)) (end : LineEnd) → IsNextLine (Some input) after bytes (Some read)
+    → AnswersRead image counted steps read bytes mid new end
+    → (input ≢ []) × (after ≡ Some (drop_through 10 input)) × AnswersBounded image counted steps (first_piece 10 input) mid new end
+answered_first image counted steps Whole input bytes after mid new end next one =
+    (next.0, next.3, inl (next.2, subst (λ (l : List ℕ). AnswersLine image counted steps l mid new end) next.1 one))
+answered_first image counted steps TooLong input bytes after mid new end next one = (some_long input next.0, next.1, inr (next.0, one.0, one.1))
 
 -- ---- lines so far
 
@@ -77,11 +99,11 @@ module _ (image : Image) (counted : Bool) (steps : ℕ) where
   -- if lines were answered, all with enough memory, and the next line is answered too, these lines and the
   -- next were answered
   answers_push : (input : List ℕ) (old : Option (List ℕ)) (turns : List LineTurn) (left : List ℕ) (mid : Option (List ℕ)) (turn : LineTurn) → AnswersLines image counted steps input old turns left mid
-      → list_any is_lack turns ≡ false → left ≢ [] → turn.rest ≡ drop_through 10 left → AnswersLine image counted steps (first_piece 10 left) mid turn.written turn.end
+      → list_any is_lack turns ≡ false → left ≢ [] → turn.rest ≡ drop_through 10 left → AnswersBounded image counted steps (first_piece 10 left) mid turn.written turn.end
       → AnswersLines image counted steps input old (turns ++ turn ∷ []) turn.rest turn.written
   answers_push input old [] left mid turn before none some rest one =
-      subst (λ (l : List ℕ). (l ≢ []) × (turn.rest ≡ drop_through 10 l) × AnswersLine image counted steps (first_piece 10 l) old turn.written turn.end × (IsTrue (is_lack turn) → ◌≡◌ {A = List LineTurn} [] []) × ((turn.rest ≡ turn.rest) × (turn.written ≡ turn.written)))
-      before.0 (some, rest, subst (λ (m : Option (List ℕ)). AnswersLine image counted steps (first_piece 10 left) m turn.written turn.end) before.1 one, λ lack. refl, (refl, refl))
+      subst (λ (l : List ℕ). (l ≢ []) × (turn.rest ≡ drop_through 10 l) × AnswersBounded image counted steps (first_piece 10 l) old turn.written turn.end × (IsTrue (is_lack turn) → ◌≡◌ {A = List LineTurn} [] []) × ((turn.rest ≡ turn.rest) × (turn.written ≡ turn.written)))
+      before.0 (some, rest, subst (λ (m : Option (List ℕ)). AnswersBounded image counted steps (first_piece 10 left) m turn.written turn.end) before.1 one, λ lack. refl, (refl, refl))
   answers_push input old (t ∷ turns) left mid turn before none some rest one =
       let both = either (is_lack t) (list_any is_lack turns) none in (
         before.0,
@@ -109,58 +131,59 @@ module _ (image : Image) (counted : Bool) (steps : ℕ) where
   so_far_bad turns turn end is before = (any_push is_bad turns turn ∙ right_of (list_any is_bad turns) (is_bad turn) (ap is_bad_end is), none_push is_lack turns turn (no_lack turns end before) (ap is_lack_end is))
 
   module _ (input : List ℕ) (old : Option (List ℕ)) (number : ℕ) (end : LinesEnd) (before mid : Option (List ℕ)) (called : HasCalled image counted steps input old number end before mid) where
-    -- if a line is read, it is the first one of what is left
-    read_of : (after : Option (List ℕ)) (bytes : List ℕ) → IsNextLine before after bytes true → (called.left ≢ []) × (bytes ≡ take_through 10 called.left) × (after ≡ Some (drop_through 10 called.left))
-    read_of after bytes next = subst (λ (b : Option (List ℕ)). IsNextLine b after bytes true) called.remains next
+    -- if a line is read and answered, it is the first one of what is left
+    read_of : (after new : Option (List ℕ)) (read : ReadLine) (bytes : List ℕ) (ended : LineEnd) → IsNextLine before after bytes (Some read) → AnswersRead image counted steps read bytes mid new ended
+        → (called.left ≢ []) × (after ≡ Some (drop_through 10 called.left)) × AnswersBounded image counted steps (first_piece 10 called.left) mid new ended
+    read_of after new read bytes ended next one =
+        answered_first image counted steps read called.left bytes after mid new ended (subst (λ (b : Option (List ℕ)). IsNextLine b after bytes (Some read)) called.remains next) one
 
-    pushed : (after new : Option (List ℕ)) (bytes : List ℕ) (ended : LineEnd) → IsNextLine before after bytes true → AnswersLine image counted steps (strip_last 10 bytes) mid new ended
+    pushed : (after new : Option (List ℕ)) (read : ReadLine) (bytes : List ℕ) (ended : LineEnd) → IsNextLine before after bytes (Some read) → AnswersRead image counted steps read bytes mid new ended
         → AnswersLines image counted steps input old (called.turns ++ record { rest = drop_through 10 called.left; written = new; end = ended } ∷ []) (drop_through 10 called.left) new
-    pushed after new bytes ended next one =
-        let read = read_of after bytes next in
-        answers_push input old called.turns called.left mid (record { rest = drop_through 10 called.left; written = new; end = ended }) called.answers (no_lack called.turns end called.so_far) read.0 refl
-        (subst (λ (l : List ℕ). AnswersLine image counted steps (strip_last 10 l) mid new ended) read.1 one)
+    pushed after new read bytes ended next one =
+        let is = read_of after new read bytes ended next one in
+        answers_push input old called.turns called.left mid (record { rest = drop_through 10 called.left; written = new; end = ended }) called.answers (no_lack called.turns end called.so_far) is.0 refl is.2
 
-    called_answered : (after new : Option (List ℕ)) (bytes : List ℕ) → IsNextLine before after bytes true → AnswersLine image counted steps (strip_last 10 bytes) mid new line.Answered
+    called_answered : (after new : Option (List ℕ)) (read : ReadLine) (bytes : List ℕ) → IsNextLine before after bytes (Some read) → AnswersRead image counted steps read bytes mid new line.Answered
         → HasCalled image counted steps input old (number + 1) end after new
-    called_answered after new bytes next one = record {
+    called_answered after new read bytes next one = record {
       turns = called.turns ++ record { rest = drop_through 10 called.left; written = new; end = line.Answered } ∷ [];
       left = drop_through 10 called.left;
-      remains = (read_of after bytes next).2;
-      answers = pushed after new bytes line.Answered next one;
+      remains = (read_of after new read bytes line.Answered next one).1;
+      answers = pushed after new read bytes line.Answered next one;
       so_far = so_far_answered called.turns _ end refl called.so_far;
       number_is = length_push called.turns _ ∙ ap (λ n. n + 1) called.number_is;
     }
 
-    called_bad : (after new : Option (List ℕ)) (bytes : List ℕ) → IsNextLine before after bytes true → AnswersLine image counted steps (strip_last 10 bytes) mid new line.BadLine
+    called_bad : (after new : Option (List ℕ)) (read : ReadLine) (bytes : List ℕ) → IsNextLine before after bytes (Some read) → AnswersRead image counted steps read bytes mid new line.BadLine
         → HasCalled image counted steps input old (number + 1) Refused after new
-    called_bad after new bytes next one = record {
+    called_bad after new read bytes next one = record {
       turns = called.turns ++ record { rest = drop_through 10 called.left; written = new; end = line.BadLine } ∷ [];
       left = drop_through 10 called.left;
-      remains = (read_of after bytes next).2;
-      answers = pushed after new bytes line.BadLine next one;
+      remains = (read_of after new read bytes line.BadLine next one).1;
+      answers = pushed after new read bytes line.BadLine next one;
       so_far = so_far_bad called.turns _ end refl called.so_far;
       number_is = length_push called.turns _ ∙ ap (λ n. n + 1) called.number_is;
     }
 
     -- if memory was refused for the next line, the lines end with `Refused`
-    ends_in_lack : (after new : Option (List ℕ)) (bytes : List ℕ) → IsNextLine before after bytes true → AnswersLine image counted steps (strip_last 10 bytes) mid new line.OutOfMemory
+    ends_in_lack : (after new : Option (List ℕ)) (read : ReadLine) (bytes : List ℕ) → IsNextLine before after bytes (Some read) → AnswersRead image counted steps read bytes mid new line.OutOfMemory
         → CallsLines image counted steps input old new Refused
-    ends_in_lack after new bytes next one =
+    ends_in_lack after new read bytes next one =
         let turn : LineTurn = record { rest = drop_through 10 called.left; written = new; end = line.OutOfMemory } in
-        (called.turns ++ turn ∷ [], drop_through 10 called.left, new, pushed after new bytes line.OutOfMemory next one, inr (inl (refl, any_push is_lack called.turns turn ∙ right_of (list_any is_lack called.turns) true refl)))
+        (called.turns ++ turn ∷ [], drop_through 10 called.left, new, pushed after new read bytes line.OutOfMemory next one, inr (inl (refl, any_push is_lack called.turns turn ∙ right_of (list_any is_lack called.turns) true refl)))
 
     -- if the next line is answered, and another may follow it, then `number + 1` lines were answered
-    pub called_more : (after new : Option (List ℕ)) (bytes : List ℕ) (ended : LineEnd) (next : LinesEnd) → IsNextLine before after bytes true → AnswersLine image counted steps (strip_last 10 bytes) mid new ended
+    pub called_more : (after new : Option (List ℕ)) (read : ReadLine) (bytes : List ℕ) (ended : LineEnd) (next : LinesEnd) → IsNextLine before after bytes (Some read) → AnswersRead image counted steps read bytes mid new ended
         → Some next ≡ end_after end ended → HasCalled image counted steps input old (number + 1) next after new
-    called_more after new bytes line.Answered next read one is = subst (λ (e : LinesEnd). HasCalled image counted steps input old (number + 1) e after new) (sym (same_Some next end is)) (called_answered after new bytes read one)
-    called_more after new bytes line.BadLine next read one is = subst (λ (e : LinesEnd). HasCalled image counted steps input old (number + 1) e after new) (sym (same_Some next Refused is)) (called_bad after new bytes read one)
-    called_more after new bytes line.OutOfMemory next read one is = absurd (none-some next (sym is))
+    called_more after new read bytes line.Answered next there one is = subst (λ (e : LinesEnd). HasCalled image counted steps input old (number + 1) e after new) (sym (same_Some next end is)) (called_answered after new read bytes there one)
+    called_more after new read bytes line.BadLine next there one is = subst (λ (e : LinesEnd). HasCalled image counted steps input old (number + 1) e after new) (sym (same_Some next Refused is)) (called_bad after new read bytes there one)
+    called_more after new read bytes line.OutOfMemory next there one is = absurd (none-some next (sym is))
 
-    pub ends_here : (after new : Option (List ℕ)) (bytes : List ℕ) (ended : LineEnd) → IsNextLine before after bytes true → AnswersLine image counted steps (strip_last 10 bytes) mid new ended → end_after end ended ≡ None
+    pub ends_here : (after new : Option (List ℕ)) (read : ReadLine) (bytes : List ℕ) (ended : LineEnd) → IsNextLine before after bytes (Some read) → AnswersRead image counted steps read bytes mid new ended → end_after end ended ≡ None
         → CallsLines image counted steps input old new Refused
-    ends_here after new bytes line.Answered read one is = absurd (none-some end (sym is))
-    ends_here after new bytes line.BadLine read one is = absurd (none-some Refused (sym is))
-    ends_here after new bytes line.OutOfMemory read one is = ends_in_lack after new bytes read one
+    ends_here after new read bytes line.Answered there one is = absurd (none-some end (sym is))
+    ends_here after new read bytes line.BadLine there one is = absurd (none-some Refused (sym is))
+    ends_here after new read bytes line.OutOfMemory there one is = ends_in_lack after new read bytes there one
 
     -- if no line is left, the lines end as they ended so far
     ended_by : (it : LinesEnd) → it ≡ end → called.left ≡ [] → AreSoFar called.turns it → CallsLines image counted steps input old mid it
@@ -168,8 +191,8 @@ module _ (image : Image) (counted : Bool) (steps : ℕ) where
     ended_by Refused is none so_far = (called.turns, called.left, mid, called.answers, inl (none, refl, so_far.0))
     ended_by Unwritten is none so_far = tt
 
-    pub ends : (after : Option (List ℕ)) (bytes : List ℕ) → IsNextLine before after bytes false → CallsLines image counted steps input old mid end
-    ends after bytes next = ended_by end refl (subst (λ (b : Option (List ℕ)). IsNextLine b after bytes false) called.remains next) called.so_far
+    pub ends : (after : Option (List ℕ)) (bytes : List ℕ) → IsNextLine before after bytes None → CallsLines image counted steps input old mid end
+    ends after bytes next = ended_by end refl (subst (λ (b : Option (List ℕ)). IsNextLine b after bytes None) called.remains next) called.so_far
 
     -- if the next line could not be read, the lines end with the result of reporting that
     pub ends_unread : (new : Option (List ℕ)) (told : LinesEnd) → IsToldUnread mid new told → CallsLines image counted steps input old new told

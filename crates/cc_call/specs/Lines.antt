@@ -1,5 +1,5 @@
 -- The answers to one line after another of an input.
-use Rattle.std.specs.Prelude.{◌≡◌, ◌≢◌, ◌⊎◌, ◌-◌, ◌^◌, ℕ, Bool, true, false, IsTrue, List, [], ◌∷◌, length, Option}
+use Rattle.std.specs.Prelude.{◌≡◌, ◌≢◌, ◌⊎◌, ◌<◌, ◌≤◌, ◌-◌, ◌^◌, ℕ, Bool, true, false, IsTrue, List, [], ◌∷◌, length, Option}
 use Rattle.std.specs.List.{list_any}
 use Rattle.std.specs.Io.KnownBytes.{Appends}
 use Rattle.std.specs.Io.BufRead.{drop_through, first_piece}
@@ -16,7 +16,7 @@ pub record LineTurn : Type 0 where
   pub written : Option (List ℕ)
   pub end : LineEnd
 
--- the line was not a list of words
+-- the line was not a list of words, or too long
 abbrev pub is_bad_end : LineEnd → Bool
 is_bad_end line.Answered = false
 is_bad_end line.BadLine = true
@@ -34,16 +34,22 @@ is_bad turn = is_bad_end turn.end
 abbrev pub is_lack : LineTurn → Bool
 is_lack turn = is_lack_end turn.end
 
+-- a line of at most 16,777,216 bytes was answered as `AnswersLine` says, and a longer one with the line for 50
+abbrev pub AnswersBounded : Image → (counted : Bool) (steps : ℕ) (bytes : List ℕ) (old new : Option (List ℕ)) → LineEnd → Type 0
+AnswersBounded image counted steps bytes old new end =
+    ((length bytes ≤ 16777216) × AnswersLine image counted steps bytes old new end)
+    ⊎ ((16777216 < length bytes) × (end ≡ line.BadLine) × Appends old new (refusal_text 50))
+
 -- After what had been written before (`old`), these lines of an input were answered, each without its newline, from its first
 -- line on; then `left` remains of the input, and `new` is written. No line follows one for which memory was refused.
 abbrev pub AnswersLines : Image → (counted : Bool) (steps : ℕ) (input : List ℕ) (old : Option (List ℕ)) → List LineTurn → (left : List ℕ) (new : Option (List ℕ)) → Type 0
 AnswersLines image counted steps input old [] left new = (left ≡ input) × (new ≡ old)
 AnswersLines image counted steps input old (turn ∷ turns) left new =
-    (input ≢ []) × (turn.rest ≡ drop_through 10 input) × AnswersLine image counted steps (first_piece 10 input) old turn.written turn.end
+    (input ≢ []) × (turn.rest ≡ drop_through 10 input) × AnswersBounded image counted steps (first_piece 10 input) old turn.written turn.end
     × (IsTrue (is_lack turn) → turns ≡ []) × AnswersLines image counted steps turn.rest turn.written turns left new
 
--- Why not every line of the input was answered with a run: all were answered, and one was not a list of words; or memory was
--- refused for the last; or the next one could not be read (53 or 40), and the line of that fault was written; or there were more
+-- Why not every line of the input was answered with a run: all were answered, and one was not a list of words or was too long; or memory
+-- was refused for the last; or the next one could not be read (53 or 40), and the line of that fault was written; or there were more
 -- lines than can be counted.
 abbrev pub IsRefused : List LineTurn → (left : List ℕ) (old new : Option (List ℕ)) → Type 0
 IsRefused turns left old new =

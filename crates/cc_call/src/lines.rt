@@ -2,11 +2,12 @@
 
 ghost use Rattle.std.specs.Prelude.{◌≡◌, IfOk, IfSome, OnOk};
 ghost use Rattle.std.specs.Io.KnownBytes.{Appends};
-ghost use Rattle.std.specs.Io.BufRead.{strip_last};
 ghost use Rattle.cc_call.specs.Call.{AnswersLine, answer_text, refusal_text};
 ghost use Rattle.cc_call.specs.Lines.{CallsLines};
-ghost use Rattle.cc_call.specs.internal.Reading.{IsNextLine, IsToldUnread, end_after};
+ghost use Rattle.cc_call.specs.internal.Reading.{AnswersRead, IsToldUnread, end_after};
 
+use crate::reading::{ReadLine, next_line};
+use crate::telling::explain_line;
 use cc_answers::{Stands, write_fault_line};
 use cc_runs::{CountedRun, run_words, words_in, write_counted_run};
 use cc_rv32::image::Image;
@@ -18,7 +19,7 @@ use std::io::{self, BufRead, ErrorKind, Write};
 pub enum LineEnd {
     /// With the run on its words.
     Answered,
-    /// 50: the line is not a list of words.
+    /// 50: the line is not a list of words, or is too long.
     BadLine,
     /// 40: memory was refused.
     OutOfMemory,
@@ -29,7 +30,7 @@ pub enum LineEnd {
 pub enum LinesEnd {
     /// Each line was a list of words, and its run was answered.
     Answered,
-    /// A line was not a list of words, or could not be read (53), or memory was refused (40): the answers say so.
+    /// A line was not a list of words or was too long (50), or could not be read (53), or memory was refused (40): the answers say so.
     Refused,
     /// 54: an answer could not be written.
     Unwritten,
@@ -88,31 +89,41 @@ pub fn answer_line<W: Write>(
     }
 }
 
-// A line without its newline.
-fn without_newline(line: &[u8]) -> &[u8]
-    ensures { result.now ≡ strip_last 10 line.now }
+// Answers what was read of a line.
+fn answer_read<W: Write>(
+    alloc: Global,
+    image: &Image,
+    steps: u64,
+    is_counted: bool,
+    read: ReadLine,
+    line: &[u8],
+    writer: &mut W,
+) -> io::Result<LineEnd>
+    ensures { IfOk result (AnswersRead image.now is_counted steps read line.now (W.contents writer.old) (W.contents writer.new)) }
 {
-    let count = line.len();
-    if 0 < count && line[count - 1] == b'\n' {
-        return &line[..count - 1];
+    match read {
+        ReadLine::Whole => answer_line(alloc, image, steps, is_counted, line, writer),
+        ReadLine::TooLong => {
+            write_refusal(50, writer)?;
+            Ok(LineEnd::BadLine)
+        }
     }
-    line
 }
 
-// Answers one line, and flushes the answer.
+// Answers a line, and flushes the answer.
 #[tactic(auto, using(crate::proofs::Turns::answered_on))]
 fn tell_line<W: Write>(
     alloc: Global,
     image: &Image,
     steps: u64,
     is_counted: bool,
+    read: ReadLine,
     line: &[u8],
     writer: &mut W,
 ) -> io::Result<LineEnd>
-    ensures { IfOk result (AnswersLine image.now is_counted steps (strip_last 10 line.now) (W.contents writer.old) (W.contents writer.new)) }
+    ensures { IfOk result (AnswersRead image.now is_counted steps read line.now (W.contents writer.old) (W.contents writer.new)) }
 {
-    let line = without_newline(line);
-    let end = answer_line(alloc, image, steps, is_counted, line, writer)?;
+    let end = answer_read(alloc, image, steps, is_counted, read, line, writer)?;
     writer.flush()?;
     Ok(end)
 }
@@ -136,15 +147,6 @@ fn tell_unread<W: Write>(error: io::Error, writer: &mut W) -> LinesEnd
     }
 }
 
-// Reads the next line with its newline, in place of what is in the buffer. The result is whether there is one.
-fn next_line<R: BufRead>(reader: &mut R, line: &mut Vec<u8>) -> io::Result<bool>
-    ensures { IfOk result (IsNextLine (R.remaining reader.old) (R.remaining reader.new) line.new.items) }
-{
-    line.clear();
-    let count = reader.read_until(b'\n', line)?;
-    Ok(0 < count)
-}
-
 // How the lines end when one more is added; `None` if no other line may follow it.
 fn end_after(end: LinesEnd, line: LineEnd) -> Option<LinesEnd>
     ensures { result ≡ end_after end line }
@@ -156,15 +158,17 @@ fn end_after(end: LinesEnd, line: LineEnd) -> Option<LinesEnd>
     }
 }
 
-/// Runs an image on the words of each line of a reader, as `answer_line` does, and flushes each answer before it reads the next line. Goes
-/// on after a line that is not a list of words; ends if memory is refused.
-pub fn call_lines<R: BufRead, W: Write>(
+/// Runs an image on the words of each line of a reader, as `answer_line` does, and flushes each answer before it reads the next line. A line
+/// of more than 16,777,216 bytes gets 50; it is skipped, and not kept. Goes on after a line that got 50, and explains that; ends if memory is
+/// refused.
+pub fn call_lines<R: BufRead, W: Write, E: Write>(
     alloc: Global,
     image: &Image,
     steps: u64,
     is_counted: bool,
     reader: &mut R,
     writer: &mut W,
+    explanations: &mut E,
 ) -> LinesEnd
     // For a reader whose bytes are known.
     ensures lines { IfSome (R.remaining reader.old) (λ input.
@@ -172,17 +176,18 @@ pub fn call_lines<R: BufRead, W: Write>(
 {
     let mut end = LinesEnd::Answered;
     let mut line = Vec::new(alloc);
-    for _ in 0..u64::MAX {
-        match next_line(reader, &mut line) {
-            Ok(true) => {}
-            Ok(false) => return end,
+    for number in 0..u64::MAX {
+        let read = match next_line(reader, &mut line) {
+            Ok(Some(read)) => read,
+            Ok(None) => return end,
             Err(error) => return tell_unread(error, writer),
-        }
+        };
         let bytes = line.as_slice();
-        let answered = match tell_line(alloc, image, steps, is_counted, bytes, writer) {
+        let answered = match tell_line(alloc, image, steps, is_counted, read, bytes, writer) {
             Ok(answered) => answered,
             Err(_) => return LinesEnd::Unwritten,
         };
+        let _ = explain_line(alloc, number + 1, read, bytes, answered, explanations);
         match end_after(end, answered) {
             Some(next) => end = next,
             None => return LinesEnd::Refused,

@@ -65,7 +65,7 @@ fn answer<W: Write, E: Write>(run: &CountedRun, writer: &mut W, told: &mut E) ->
     settled(write, 0, writer, told)
 }
 
-// Runs a unit once for each line. The result is the status.
+// Runs a unit once for each line, and explains which lines it can't be run on. The result is the status.
 fn answer_lines<R: BufRead, W: Write, E: Write>(
     alloc: Global,
     unit: &StoredUnit,
@@ -81,6 +81,7 @@ fn answer_lines<R: BufRead, W: Write, E: Write>(
         asked.is_counted,
         reader,
         writer,
+        told,
     ) {
         LinesEnd::Answered => 0,
         LinesEnd::Refused => 1,

@@ -19,7 +19,16 @@ fn an_answer_that_cannot_be_written(rt: HostRuntime) -> Result<(), Fail> {
     };
     let image = Image { code, globals };
     let mut lines: &[u8] = b"1 2\n3 4\n";
-    let end = call_lines(alloc, &image, 100, false, &mut lines, &mut Refuses);
+    let mut told = Vec::new(alloc);
+    let end = call_lines(
+        alloc,
+        &image,
+        100,
+        false,
+        &mut lines,
+        &mut Refuses,
+        &mut told,
+    );
     assert!(rt; end == LinesEnd::Unwritten);
     Ok(())
 }
