@@ -12,7 +12,7 @@ const LAST_RECORD: &[u8] = b":00000001FF";
 const WRITE_FAULT: u32 = 54;
 
 /// How a line was answered.
-#[derive(Clone, Copy, Debug, Drop, PartialEq, Eq)]
+#[derive(Clone, Copy, Drop)]
 pub(crate) enum Word {
     Ok,
     Fault(u32),
@@ -22,6 +22,15 @@ pub(crate) enum Word {
     Source,
     Image,
 }
+
+// The words with which the last line of an answer begins, unless it reports a fault.
+static WORDS: [(&str, Word); 5] = [
+    ("ok", Word::Ok),
+    ("going", Word::Going),
+    ("exited", Word::Exited),
+    ("trapped", Word::Trapped),
+    ("source", Word::Source),
+];
 
 /// For each line whose answer was written so far, how it was answered.
 #[derive(Drop)]
@@ -47,39 +56,37 @@ fn number_of(word: &[u8]) -> u32 {
     number
 }
 
+/// The first two words of a line: what is before the first space, and what is between that and the next one, if there is one.
+pub(crate) fn first_words(line: &[u8]) -> (&[u8], Option<&[u8]>) {
+    let mut words = line.split(|byte| *byte == b' ');
+    let first = words.next().unwrap_or(b"");
+    (first, words.next())
+}
+
 // How a line of the script was answered, if this line ends its answer.
 fn word_of(line: &[u8]) -> Option<Word> {
     if line == LAST_RECORD {
         return Some(Word::Image);
     }
-    let mut words = line.split(|byte| *byte == b' ');
-    let first = words.next()?;
-    if first == b"ok".as_slice() {
-        Some(Word::Ok)
-    } else if first == b"fault".as_slice() {
-        Some(Word::Fault(number_of(words.next().unwrap_or(b""))))
-    } else if first == b"going".as_slice() {
-        Some(Word::Going)
-    } else if first == b"exited".as_slice() {
-        Some(Word::Exited)
-    } else if first == b"trapped".as_slice() {
-        Some(Word::Trapped)
-    } else if first == b"source".as_slice() {
-        Some(Word::Source)
-    } else {
-        None
+    let (first, second) = first_words(line);
+    if first == b"fault".as_slice() {
+        return Some(Word::Fault(number_of(second.unwrap_or(b""))));
     }
+    for (name, word) in &WORDS {
+        if first == name.as_bytes() {
+            return Some(*word);
+        }
+    }
+    None
 }
 
 // How many bytes the source after a line has, including the newline at its end.
 fn source_after(line: &[u8]) -> u64 {
-    let mut words = line.split(|byte| *byte == b' ');
-    if words.next().unwrap_or(b"") != b"source".as_slice() {
-        return 0;
-    }
-    match words.next() {
-        Some(digits) => u64::from(number_of(digits)).saturating_add(1),
-        None => 0,
+    match first_words(line) {
+        (first, Some(digits)) if first == b"source".as_slice() => {
+            u64::from(number_of(digits)).saturating_add(1)
+        }
+        _ => 0,
     }
 }
 

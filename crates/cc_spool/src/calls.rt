@@ -6,7 +6,7 @@ use crate::entries::Entries;
 use crate::found::Found;
 use crate::layout::FolderLayout;
 use crate::place::Place;
-use crate::refusal::Refusal;
+use crate::refusal::{Refusal, known};
 use std::alloc::AllocError;
 use std::fs::{self, DirBuilder, File, OpenOptions, Permissions, TryLockError};
 use std::os::unix::fs::{DirBuilderExt, FileExt, OpenOptionsExt, PermissionsExt};
@@ -17,26 +17,22 @@ type Along = Result<String, AllocError>;
 
 /// Syncs what was written to a file, or the names in a directory.
 pub(crate) fn settle(file: &File) -> Result<(), Refusal> {
-    file.sync_all()?;
-    Ok(())
+    known(file.sync_all())
 }
 
 /// Writes these bytes to a file, at this offset.
 pub(crate) fn write_at(file: &File, bytes: &[u8], at: u64) -> Result<(), Refusal> {
-    file.write_all_at(bytes, at)?;
-    Ok(())
+    known(file.write_all_at(bytes, at))
 }
 
 /// Fills the room with the bytes of a file at this offset.
 pub(crate) fn read_at(file: &File, room: &mut [u8], at: u64) -> Result<(), Refusal> {
-    file.read_exact_at(room, at)?;
-    Ok(())
+    known(file.read_exact_at(room, at))
 }
 
 /// Makes a file this many bytes long.
 pub(crate) fn set_length(file: &File, bytes: u64) -> Result<(), Refusal> {
-    file.set_len(bytes)?;
-    Ok(())
+    known(file.set_len(bytes))
 }
 
 /// Tries to lock a file. The result is false if somebody else has locked it.
@@ -59,39 +55,50 @@ pub(crate) fn is_locked(file: &File) -> Result<bool, Refusal> {
 
 /// Sets a file's rights to these, regardless of the process's umask.
 pub(crate) fn set_file_rights(file: &File, rights: u32) -> Result<(), Refusal> {
-    file.set_permissions(Permissions::from_mode(rights))?;
-    Ok(())
+    known(file.set_permissions(Permissions::from_mode(rights)))
 }
 
 impl FolderLayout {
     // What is at a path, if something is; a link is not followed.
     fn look_along(&self, path: Along) -> Result<Option<Found>, Refusal> {
-        let path = path?;
-        let told = match fs::symlink_metadata(&self.rt, path.as_str()) {
-            Ok(told) => Ok(Some(Found::of(&told))),
-            Err(error) => Err(Refusal::from(error)),
+        let Ok(path) = path else {
+            return Err(Refusal::NoMemory);
         };
-        match told {
-            Err(refusal) if refusal.is_absent() => Ok(None),
-            told => told,
+        match fs::symlink_metadata(&self.rt, path.as_str()) {
+            Ok(told) => Ok(Some(Found::of(&told))),
+            Err(error) => match Refusal::from(error) {
+                refusal if refusal.is_absent() => Ok(None),
+                refusal => Err(refusal),
+            },
         }
     }
 
     fn remove_along(&self, path: Along) -> Result<(), Refusal> {
-        let path = path?;
-        fs::remove_file(&self.rt, path.as_str())?;
-        Ok(())
+        let Ok(path) = path else {
+            return Err(Refusal::NoMemory);
+        };
+        known(fs::remove_file(&self.rt, path.as_str()))
+    }
+
+    fn remove_directory_along(&self, path: Along) -> Result<(), Refusal> {
+        let Ok(path) = path else {
+            return Err(Refusal::NoMemory);
+        };
+        known(fs::remove_dir(&self.rt, path.as_str()))
     }
 
     fn rename_along(&self, from: Along, to: Along) -> Result<(), Refusal> {
-        let (from, to) = (from?, to?);
-        fs::rename(&self.rt, from.as_str(), to.as_str())?;
-        Ok(())
+        let (Ok(from), Ok(to)) = (from, to) else {
+            return Err(Refusal::NoMemory);
+        };
+        known(fs::rename(&self.rt, from.as_str(), to.as_str()))
     }
 
     fn open_along(&self, how: &OpenOptions, path: Along) -> Result<File, Refusal> {
-        let path = path?;
-        Ok(how.open(&self.rt, path.as_str())?)
+        let Ok(path) = path else {
+            return Err(Refusal::NoMemory);
+        };
+        known(how.open(&self.rt, path.as_str()))
     }
 
     /// What is at a script's place, if something is; a link is not followed. An `Err` if that is not known.
@@ -133,11 +140,7 @@ impl FolderLayout {
     pub(crate) fn remove_claim(&self, name: &str) -> Result<(), Refusal> {
         match self.remove(Place::Claimed, name) {
             Ok(()) => Ok(()),
-            Err(_) => {
-                let path = self.path_of(Place::Claimed, name)?;
-                fs::remove_dir(&self.rt, path.as_str())?;
-                Ok(())
-            }
+            Err(_) => self.remove_directory_along(self.path_of(Place::Claimed, name)),
         }
     }
 
@@ -155,9 +158,10 @@ impl FolderLayout {
         to: Place,
         new_name: &str,
     ) -> Result<(), Refusal> {
-        let (from, to) = (self.path_of(from, name)?, self.path_of(to, new_name)?);
-        fs::hard_link(&self.rt, from.as_str(), to.as_str())?;
-        Ok(())
+        let (Ok(from), Ok(to)) = (self.path_of(from, name), self.path_of(to, new_name)) else {
+            return Err(Refusal::NoMemory);
+        };
+        known(fs::hard_link(&self.rt, from.as_str(), to.as_str()))
     }
 
     /// A new file for writing, with the rights of the folder's files.
@@ -230,33 +234,33 @@ impl FolderLayout {
 
     /// Removes a part that is an empty directory.
     pub(crate) fn remove_directory(&self, part: &str) -> Result<(), Refusal> {
-        let path = self.part(part)?;
-        fs::remove_dir(&self.rt, path.as_str())?;
-        Ok(())
+        self.remove_directory_along(self.part(part))
     }
 
     /// Makes a directory that only the server may use.
     pub(crate) fn make_directory(&self, part: &str) -> Result<(), Refusal> {
-        let path = self.part(part)?;
+        let Ok(path) = self.part(part) else {
+            return Err(Refusal::NoMemory);
+        };
         let mut how = DirBuilder::new();
         how.mode(0o700);
-        how.create(&self.rt, path.as_str())?;
-        Ok(())
+        known(how.create(&self.rt, path.as_str()))
     }
 
     /// Makes the folder, and the directories above it, with 0755 if the process's mask allows that.
     pub(crate) fn make_folder(&self) -> Result<(), Refusal> {
         let mut how = DirBuilder::new();
         how.recursive(true).mode(0o755);
-        how.create(&self.rt, self.path.as_str())?;
-        Ok(())
+        known(how.create(&self.rt, self.path.as_str()))
     }
 
     /// Gives a part these rights.
     pub(crate) fn set_rights(&self, part: &str, rights: u32) -> Result<(), Refusal> {
-        let path = self.part(part)?;
-        fs::set_permissions(&self.rt, path.as_str(), Permissions::from_mode(rights))?;
-        Ok(())
+        let Ok(path) = self.part(part) else {
+            return Err(Refusal::NoMemory);
+        };
+        let rights = Permissions::from_mode(rights);
+        known(fs::set_permissions(&self.rt, path.as_str(), rights))
     }
 
     /// Renames a part.
@@ -266,7 +270,9 @@ impl FolderLayout {
 
     /// The entries of a part.
     pub(crate) fn entries(&self, part: &str) -> Result<Entries, Refusal> {
-        let path = self.part(part)?;
+        let Ok(path) = self.part(part) else {
+            return Err(Refusal::NoMemory);
+        };
         match fs::read_dir(&self.rt, path.as_str()) {
             Ok(entries) => Ok(Entries::new(self.alloc, entries)),
             Err(error) => Err(Refusal::from(error)),

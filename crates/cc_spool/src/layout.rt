@@ -45,7 +45,6 @@ const ALL: Limits = Limits {
 };
 
 /// A spool's folder.
-#[derive(Drop)]
 pub struct FolderLayout {
     pub(crate) rt: HostRuntime,
     pub(crate) alloc: Global,
@@ -56,6 +55,20 @@ pub struct FolderLayout {
     held: Option<Found>,
     // What all clients of one server know about the folder.
     pub(crate) common: Arc<Common>,
+}
+
+// Written by hand, so that crates that use this one rely on this proof and need not prove again how each part is dropped.
+impl Drop for FolderLayout {
+    fn drop(self) {
+        let FolderLayout {
+            rt,
+            alloc,
+            path,
+            file_rights,
+            held,
+            common,
+        } = self;
+    }
 }
 
 /// What all clients of one server know about its folder. A client that finds the board or the log taken does not wait for it.
@@ -82,9 +95,15 @@ pub(crate) struct Common {
 }
 
 /// The lock of a folder, held while this value exists.
-#[derive(Drop)]
 pub struct Held {
     file: File,
+}
+
+// Written by hand, as that of `FolderLayout`.
+impl Drop for Held {
+    fn drop(self) {
+        let Held { file } = self;
+    }
 }
 
 impl FolderLayout {

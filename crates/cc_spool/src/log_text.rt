@@ -5,7 +5,7 @@
 // push those out: so only the first few of a script's other commands are there, and then a line that says how many lines were left
 // out. In that line a number has the place of a command, as in no other line: lines that are no command are always left out.
 
-use crate::answer_words::Word;
+use crate::answer_words::{Word, first_words};
 use crate::layout::FolderLayout;
 use crate::names::since_1970;
 use crate::refusal::Refusal;
@@ -25,7 +25,7 @@ const BAD_LINE: u32 = 50;
 
 // Whether a command that is answered `ok` changes nothing.
 fn is_question(line: &[u8]) -> bool {
-    let verb = line.split(|byte| *byte == b' ').next().unwrap_or(b"");
+    let (verb, _) = first_words(line);
     verb == b"list".as_slice() || verb == b"audit".as_slice() || verb == b"space".as_slice()
 }
 
@@ -80,7 +80,7 @@ impl Account {
         if is_change(line, word) {
             return true;
         }
-        let is_admitted = word != Word::Fault(BAD_LINE) && 0 < self.room;
+        let is_admitted = !matches!(word, Word::Fault(BAD_LINE)) && 0 < self.room;
         if is_admitted {
             self.room = self.room.saturating_sub(1);
         }

@@ -45,6 +45,14 @@ impl Refusal {
     }
 }
 
+/// What a call of the system answered, with a refusal in place of its error.
+pub(crate) fn known<T: Drop>(res: io::Result<T>) -> Result<T, Refusal> {
+    match res {
+        Ok(value) => Ok(value),
+        Err(error) => Err(Refusal::from(error)),
+    }
+}
+
 impl From<AllocError> for Refusal {
     fn from(_error: AllocError) -> Refusal {
         Refusal::NoMemory

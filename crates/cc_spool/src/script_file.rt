@@ -23,7 +23,6 @@ enum Part {
 }
 
 /// A script that is read from a file, and its lines so far. Lines for which there is no memory are missing from the log.
-#[derive(Drop)]
 pub struct ScriptFile {
     file: File,
     part: Part,
@@ -35,6 +34,21 @@ pub struct ScriptFile {
     count: usize,
     // Whether all lines so far were kept.
     is_whole: bool,
+}
+
+// Written by hand, so that crates that use this one rely on this proof and need not prove again how each part is dropped.
+impl Drop for ScriptFile {
+    fn drop(self) {
+        let ScriptFile {
+            file,
+            part,
+            line,
+            is_long,
+            lines,
+            count,
+            is_whole,
+        } = self;
+    }
 }
 
 // A part of `count` bytes, and then one of `then` bytes, if that is given.

@@ -1,371 +1,367 @@
 // A spool in a real folder: which things in `new` are scripts, what a start does with what a kill left, and when an answer is
 // replaced with 54.
 
-use crate::helpers::{
-    End, Folder, Meanwhile, answer, answer_one, begun, clears, counts, done, ends_so, is_answered,
-    is_soon_awaited, must, put_as_written, recovered, renumber_one, second,
+use crate::files::Deed::{
+    Has, HasRights, HasText, IsAbsent, IsThere, Link, Make, Put, Remove, SetAhead, SetLength,
+    SetRights, Unmake,
 };
-use cc_spool::{FolderLayout, FolderSpool, Recovered, Spool};
+use crate::files::Folder;
+use crate::helpers::{
+    End, Meanwhile, answer, answer_one, ends_so, is_answered, must, put_as_written, put_plain,
+    renumber_one, second,
+};
+use crate::steps::Step::{
+    Answer, At, Begin, Clears, Counts, Deliver, Done, Entries, HasFailed, IsAsSeen, IsAwaited,
+    IsLong, IsOver, IsRefused, IsSoonAwaited, IsStopped, LinkHard, Recovers, See, Wait,
+};
+use crate::steps::{Client, Row, Step, begin_again, end, run, run_alone};
+use cc_spool::{FolderLayout, FolderSpool, Spool};
 use std::io::{self, Read, Write};
+use std::process::Abort;
 use std::thread;
 use std::time::{Duration, Instant};
 
-// What is put into `new`.
-#[derive(Clone, Copy, Drop)]
-enum Thing {
-    File(&'static str),
-    // A file of this length to which nothing was written.
-    Sparse(u64),
-    Link,
-    Directory,
-}
-
-// A name, the thing that has it, and whether the thing is a script.
-#[derive(Clone, Copy, Drop)]
-struct Row {
-    name: &'static str,
-    thing: Thing,
-    is_script: bool,
-}
-
-static ROWS: [Row; 10] = [
-    Row {
-        name: "plain",
-        thing: Thing::File("list\n"),
-        is_script: true,
-    },
-    Row {
-        name: "Empty-1_2",
-        thing: Thing::File(""),
-        is_script: true,
-    },
-    Row {
-        name: "large",
-        thing: Thing::Sparse(16_777_217),
-        is_script: true,
-    },
-    Row {
-        name: "a234567890b234567890c234567890d234567890e234567890f2345678901234",
-        thing: Thing::File(""),
-        is_script: true,
-    },
-    Row {
-        name: "a234567890b234567890c234567890d234567890e234567890f23456789012345",
-        thing: Thing::File(""),
-        is_script: false,
-    },
-    Row {
-        name: ".hidden",
-        thing: Thing::File(""),
-        is_script: false,
-    },
-    Row {
-        name: "plain.answer",
-        thing: Thing::File(""),
-        is_script: false,
-    },
-    Row {
-        name: "two words",
-        thing: Thing::File(""),
-        is_script: false,
-    },
-    Row {
-        name: "link",
-        thing: Thing::Link,
-        is_script: false,
-    },
-    Row {
-        name: "directory",
-        thing: Thing::Directory,
-        is_script: false,
-    },
+// A file to which nothing was written may be large.
+static PUT_THINGS: [Row; 11] = [
+    (PLAIN, "plain"),
+    (At("new", "Empty-1_2", Put("")), "an empty file"),
+    (At("new", "large", Put("")), "a file"),
+    (At("new", "large", SetLength(16_777_217)), "a large file"),
+    (At("new", LONGEST, Put("")), "a name of 64 bytes"),
+    (At("new", TOO_LONG, Put("")), "a name of 65 bytes"),
+    (At("new", ".hidden", Put("")), "a hidden file"),
+    (At("new", "plain.answer", Put("")), "a name with a dot"),
+    (At("new", "two words", Put("")), "a name with a space"),
+    (At("new", "link", Link("/etc/hostname")), "a link"),
+    (At("new", "directory", Make), "a directory"),
 ];
 
-// Puts a row's thing into `new`.
-fn put(folder: Folder, row: &Row) -> bool {
-    match row.thing {
-        Thing::File(text) => folder.write("new", row.name, text),
-        Thing::Sparse(bytes) => {
-            folder.write("new", row.name, "") && folder.set_length("new", row.name, bytes)
-        }
-        Thing::Link => folder.link("new", row.name, "/etc/hostname"),
-        Thing::Directory => folder.make("new", row.name),
-    }
-}
+const LONGEST: &str = "a234567890b234567890c234567890d234567890e234567890f2345678901234";
 
-// Puts a script into `new`.
-fn put_plain(folder: Folder) -> bool {
-    folder.write("new", "plain", "list\n")
-}
+const TOO_LONG: &str = "a234567890b234567890c234567890d234567890e234567890f23456789012345";
 
-// Whether a row is as it should be after the server: answered, or untouched.
-fn is_right(folder: Folder, row: &Row) -> bool {
-    folder.is_there("done", row.name) == row.is_script
-        && folder.is_there("new", row.name) != row.is_script
-}
+// A script is put into `new`.
+const PLAIN: Step = At("new", "plain", Put("list\n"));
+
+// The scripts are answered, and the other things are untouched.
+static FOUR_SCRIPTS: [Row; 25] = [
+    (Done(4), "four are scripts"),
+    (Counts(4, 0), "four are answered"),
+    (At("done", "plain", IsThere), "plain is answered"),
+    (At("new", "plain", IsAbsent), "plain is gone"),
+    (
+        At("done", "Empty-1_2", IsThere),
+        "the empty file is answered",
+    ),
+    (At("new", "Empty-1_2", IsAbsent), "the empty file is gone"),
+    (At("done", "large", IsThere), "the large file is answered"),
+    (At("new", "large", IsAbsent), "the large file is gone"),
+    (
+        At("done", LONGEST, IsThere),
+        "the name of 64 bytes is answered",
+    ),
+    (At("new", LONGEST, IsAbsent), "the name of 64 bytes is gone"),
+    (
+        At("done", TOO_LONG, IsAbsent),
+        "the name of 65 bytes has no answer",
+    ),
+    (At("new", TOO_LONG, IsThere), "the name of 65 bytes stays"),
+    (
+        At("done", ".hidden", IsAbsent),
+        "the hidden file has no answer",
+    ),
+    (At("new", ".hidden", IsThere), "the hidden file stays"),
+    (
+        At("done", "plain.answer", IsAbsent),
+        "the name with a dot has no answer",
+    ),
+    (
+        At("new", "plain.answer", IsThere),
+        "the name with a dot stays",
+    ),
+    (
+        At("done", "two words", IsAbsent),
+        "the name with a space has no answer",
+    ),
+    (
+        At("new", "two words", IsThere),
+        "the name with a space stays",
+    ),
+    (At("done", "link", IsAbsent), "the link has no answer"),
+    (At("new", "link", IsThere), "the link stays"),
+    (
+        At("done", "directory", IsAbsent),
+        "the directory has no answer",
+    ),
+    (At("new", "directory", IsThere), "the directory stays"),
+    (IsOver(false), "it goes on"),
+    (At(".", "stop", Put("")), "a stop"),
+    (IsOver(true), "it is stopped"),
+];
 
 #[test]
 fn which_things_are_scripts(rt: HostRuntime) {
     let path = "which_things_are_scripts.spool";
-    let folder = Folder { rt, path };
-    let (layout, held) = folder.take().expect(&rt, "a folder");
-    for row in &ROWS {
-        must(&rt, put(folder, row), row.name);
-    }
-    let mut spool = FolderSpool::new(layout, 100);
-    must(&rt, done(folder, &mut spool) == 4, "four are scripts");
-    must(&rt, spool.answered() == 4, "four are answered");
-    for row in &ROWS {
-        must(&rt, is_right(folder, row), row.name);
-    }
-    must(&rt, !spool.is_over(), "it goes on");
-    must(&rt, folder.write(".", "stop", ""), "a stop");
-    must(&rt, spool.is_over(), "it is stopped");
-    must(&rt, folder.end_spool(spool, held), "its end");
+    let mut server = Folder { rt, path }.server(&rt, 100);
+    server.runs(&rt, &PUT_THINGS);
+    server.runs(&rt, &FOUR_SCRIPTS);
+    end(&rt, server);
 }
 
-// A state of `cur` that a kill leaves, and what the next start hands over.
-#[derive(Clone, Copy, Drop)]
-struct State {
-    name: &'static str,
-    is_claimed: bool,
-    answer: Option<&'static str>,
-    handed: Option<&'static str>,
-}
-
-static STATES: [State; 7] = [
-    State {
-        name: "not-claimed",
-        is_claimed: false,
-        answer: Some(""),
-        handed: None,
-    },
-    State {
-        name: "begun",
-        is_claimed: true,
-        answer: Some(""),
-        handed: Some("fault 55 Interrupted\n"),
-    },
-    State {
-        name: "in-a-line",
-        is_claimed: true,
-        answer: Some("ok 1\nok"),
-        handed: Some("ok 1\nfault 55 Interrupted\n"),
-    },
-    State {
-        name: "told-already",
-        is_claimed: true,
-        answer: Some("ok 1\nfault 55 Interrupted\n"),
-        handed: Some("ok 1\nfault 55 Interrupted\n"),
-    },
-    State {
-        name: "unwritten",
-        is_claimed: true,
-        answer: Some("fault 54 WriteFault\nnit a\nok 2\n"),
-        handed: Some("fault 54 WriteFault\n"),
-    },
-    State {
-        name: "out-of-order",
-        is_claimed: false,
-        answer: Some("ok 1\n"),
-        handed: Some("ok 1\nfault 55 Interrupted\n"),
-    },
-    State {
-        name: "handed-over",
-        is_claimed: true,
-        answer: None,
-        handed: None,
-    },
+// The states of `cur` that a kill leaves: a script `NAME` there was claimed, and `NAME.answer` is its answer, as far as it was
+// written. Then what the next start hands over.
+static LEFT: [Row; 21] = [
+    (At("cur", "not-claimed.answer", Put("")), "not claimed"),
+    (At("cur", "begun", Put("list\n")), "begun"),
+    (At("cur", "begun.answer", Put("")), "begun, answer"),
+    (At("cur", "in-a-line", Put("list\n")), "in a line"),
+    (
+        At("cur", "in-a-line.answer", Put("ok 1\nok")),
+        "in a line, answer",
+    ),
+    (At("cur", "reported", Put("list\n")), "reported"),
+    (
+        At("cur", "reported.answer", Put(REPORTED)),
+        "reported, answer",
+    ),
+    (At("cur", "unwritten", Put("list\n")), "unwritten"),
+    (
+        At(
+            "cur",
+            "unwritten.answer",
+            Put("fault 54 WriteFault\nnit a\nok 2\n"),
+        ),
+        "unwritten, answer",
+    ),
+    (
+        At("cur", "out-of-order.answer", Put("ok 1\n")),
+        "out of order",
+    ),
+    (At("cur", "handed-over", Put("list\n")), "handed over"),
+    (Recovers(5, 0, 0), "five were begun"),
+    (
+        At("done", "not-claimed", IsAbsent),
+        "no answer to what was not claimed",
+    ),
+    (
+        At("done", "begun", HasText("fault 55 Interrupted\n")),
+        "begun, done",
+    ),
+    (
+        At("done", "in-a-line", HasText(REPORTED)),
+        "in a line, done",
+    ),
+    (At("done", "reported", HasText(REPORTED)), "reported, done"),
+    (
+        At("done", "unwritten", HasText("fault 54 WriteFault\n")),
+        "unwritten, done",
+    ),
+    (
+        At("done", "out-of-order", HasText(REPORTED)),
+        "out of order, done",
+    ),
+    (At("done", "handed-over", IsAbsent), "no second answer"),
+    (At("cur", "", Has(0)), "nothing is left"),
+    (Counts(0, 0), "the client has none of them"),
 ];
 
-// Leaves a state of `cur`.
-fn leave(folder: Folder, state: &State) -> bool {
-    let Ok(answer) = format!(in folder.rt.alloc(); "{}.answer", state.name) else {
-        return false;
-    };
-    let is_claimed = !state.is_claimed || folder.write("cur", state.name, "list\n");
-    match state.answer {
-        Some(text) => is_claimed && folder.write("cur", answer.as_str(), text),
-        None => is_claimed,
-    }
-}
-
-// Whether a start handed over what it should.
-fn is_recovered(folder: Folder, state: &State) -> bool {
-    match state.handed {
-        Some(text) => folder.has_text("done", state.name, text),
-        None => !folder.is_there("done", state.name),
-    }
-}
+const REPORTED: &str = "ok 1\nfault 55 Interrupted\n";
 
 #[test]
 fn what_a_kill_left(rt: HostRuntime) {
     let path = "what_a_kill_left.spool";
-    let folder = Folder { rt, path };
-    let (layout, held) = folder.take().expect(&rt, "a folder");
-    for state in &STATES {
-        must(&rt, leave(folder, state), state.name);
-    }
-    let Recovered { begun, kept, .. } = recovered(&layout).expect(&rt, "a start");
-    must(&rt, begun == 5 && kept.is_empty(), "five were begun");
-    for state in &STATES {
-        must(&rt, is_recovered(folder, state), state.name);
-    }
-    must(&rt, folder.has("cur", 0), "nothing is left");
-    must(&rt, folder.end(layout, held), "its end");
+    run(&rt, Folder { rt, path }, 100, &LEFT);
 }
+
+// A second client of the server made the empty file before the first client removed the claim of the script that it had answered.
+static EMPTY: [Row; 6] = [
+    (At("cur", "begun.answer", Put("")), "an empty file"),
+    (At("cur", "begun", Put("list\n")), "a claim"),
+    (At("done", "begun", Put("ok 1\n")), "an answer"),
+    (Recovers(0, 0, 0), "none was begun"),
+    (At("done", "begun", HasText("ok 1\n")), "it stays"),
+    (At("cur", "", Has(0)), "nothing is left"),
+];
 
 #[test]
 fn an_empty_file_beside_an_answer(rt: HostRuntime) {
     let path = "an_empty_file_beside_an_answer.spool";
-    let folder = Folder { rt, path };
-    let (layout, held) = folder.take().expect(&rt, "a folder");
-    // A second client of the server made the empty file before the first client removed the claim of the script that it had
-    // answered.
-    must(&rt, leave(folder, &STATES[1]), "a claim");
-    let name = STATES[1].name;
-    must(&rt, folder.write("done", name, "ok 1\n"), "an answer");
-    let Recovered { begun, kept, stuck } = recovered(&layout).expect(&rt, "a start");
-    must(
-        &rt,
-        begun == 0 && kept.is_empty() && stuck == 0,
-        "none was begun",
-    );
-    must(&rt, folder.has_text("done", name, "ok 1\n"), "it stays");
-    must(&rt, folder.has("cur", 0), "nothing is left");
-    must(&rt, folder.end(layout, held), "its end");
+    run(&rt, Folder { rt, path }, 100, &EMPTY);
 }
+
+static DIRECTORIES: [Row; 4] = [
+    (At("cur", "empty", Make), "an empty one"),
+    (At("cur", "full/of", Make), "one that is not empty"),
+    (
+        Recovers(0, 0, 1),
+        "none is a script, and one can't be taken away",
+    ),
+    (At("cur", "empty", IsAbsent), "the other is gone"),
+];
 
 #[test]
 fn directories_in_the_place_of_scripts(rt: HostRuntime) {
     let path = "directories_in_the_place_of_scripts.spool";
-    let folder = Folder { rt, path };
-    let (layout, held) = folder.take().expect(&rt, "a folder");
-    must(&rt, folder.make("cur", "empty"), "an empty one");
-    must(&rt, folder.make("cur", "full/of"), "one that is not empty");
-    let Recovered { begun, kept, stuck } = recovered(&layout).expect(&rt, "a start");
-    must(&rt, begun == 0 && kept.is_empty(), "none is a script");
-    must(&rt, stuck == 1, "one can't be taken away");
-    must(&rt, !folder.is_there("cur", "empty"), "the other is gone");
-    must(&rt, folder.end(layout, held), "its end");
+    run(&rt, Folder { rt, path }, 100, &DIRECTORIES);
 }
+
+static STOP: [Row; 2] = [(At(".", "stop", Put("")), "a stop"), (Wait(20), "a moment")];
+
+static OLD_STOP: [Row; 3] = [
+    (IsStopped(false), "it was for an earlier server"),
+    (At(".", "stop", Put("")), "another stop"),
+    (At(".", "stop", SetAhead), "of a later moment"),
+];
+
+static NEW_STOP: [Row; 1] = [(IsStopped(true), "it is for this one")];
 
 #[test]
 fn a_stop_of_before_the_start(rt: HostRuntime) {
     let path = "a_stop_of_before_the_start.spool";
-    let folder = Folder { rt, path };
-    let (layout, held) = folder.take().expect(&rt, "a folder");
-    drop(layout);
-    drop(held);
-    must(&rt, folder.write(".", "stop", ""), "a stop");
-    thread::sleep(&rt, Duration::from_millis(20));
-    let (layout, held) = folder.take().expect(&rt, "the folder again");
-    must(&rt, !layout.is_stopped(), "it was for an earlier server");
-    must(&rt, folder.set_ahead(".", "stop"), "one of a later moment");
-    drop(layout);
-    drop(held);
-    let (layout, held) = folder.take().expect(&rt, "once more");
-    must(&rt, layout.is_stopped(), "it is for this one");
-    must(&rt, folder.end(layout, held), "its end");
+    let mut server = Folder { rt, path }.server(&rt, 100);
+    server.runs(&rt, &STOP);
+    let mut server = begin_again(&rt, server);
+    server.runs(&rt, &OLD_STOP);
+    let mut server = begin_again(&rt, server);
+    server.runs(&rt, &NEW_STOP);
+    end(&rt, server);
 }
 
-// Whether three looks find nothing to do, and do not hand over what is kept.
-fn is_idle(folder: Folder, spool: &mut FolderSpool) -> bool {
-    for _ in 0..3 {
-        if done(folder, spool) != 0 {
-            return false;
-        }
-    }
-    spool.answered() == 0 && spool.kept() == 3
-}
+// Three scripts that were begun, and whose answers can't be moved to `done`. Three looks find nothing to do, and do not hand over what
+// is kept, nor do three later ones. An answer that is whole is not written again. The three answers go together.
+static BARRED_THREE: [Row; 32] = [
+    (At("cur", "begun", Put("list\n")), "begun"),
+    (At("cur", "begun.answer", Put("")), "begun, answer"),
+    (At("done", "begun", Make), "begun, bar"),
+    (At("cur", "in-a-line", Put("list\n")), "in a line"),
+    (
+        At("cur", "in-a-line.answer", Put("ok 1\nok")),
+        "in a line, answer",
+    ),
+    (At("done", "in-a-line", Make), "in a line, bar"),
+    (At("cur", "reported", Put("list\n")), "reported"),
+    (
+        At("cur", "reported.answer", Put(REPORTED)),
+        "reported, answer",
+    ),
+    (At("done", "reported", Make), "reported, bar"),
+    (Recovers(0, 3, 0), "three are kept"),
+    (Done(0), "no script is done"),
+    (Done(0), "nor at the second look"),
+    (Done(0), "nor at the third one"),
+    (Counts(0, 3), "none is handed over"),
+    (See("cur", "in-a-line.answer"), "an answer that is whole"),
+    (Wait(20), "a moment"),
+    (Done(0), "nor at the fourth look"),
+    (Done(0), "nor at the fifth one"),
+    (Done(0), "nor at the sixth one"),
+    (Counts(0, 3), "none is handed over later"),
+    (
+        IsAsSeen("cur", "in-a-line.answer"),
+        "it is not written again",
+    ),
+    (At("done", "begun", Unmake), "begun, no bar"),
+    (At("done", "in-a-line", Unmake), "in a line, no bar"),
+    (At("done", "reported", Unmake), "reported, no bar"),
+    (Done(0), "still no script is done"),
+    (Counts(3, 0), "three are handed over"),
+    (
+        At("done", "begun", HasText("fault 55 Interrupted\n")),
+        "begun, done",
+    ),
+    (
+        At("done", "in-a-line", HasText(REPORTED)),
+        "in a line, done",
+    ),
+    (At("done", "reported", HasText(REPORTED)), "reported, done"),
+    (
+        At("cur", "begun.answer", IsAbsent),
+        "begun, no answer in `cur`",
+    ),
+    (
+        At("cur", "in-a-line.answer", IsAbsent),
+        "in a line, no answer in `cur`",
+    ),
+    (
+        At("cur", "reported.answer", IsAbsent),
+        "reported, none either",
+    ),
+];
 
 #[test]
 fn what_a_start_could_not_hand_over(rt: HostRuntime) {
     let path = "what_a_start_could_not_hand_over.spool";
-    let folder = Folder { rt, path };
-    let (layout, held) = folder.take().expect(&rt, "a folder");
-    // Three scripts that were begun.
-    for state in &STATES[1..4] {
-        let is_left = leave(folder, state) && folder.make("done", state.name);
-        must(&rt, is_left, state.name);
-    }
-    let Recovered { begun, kept, .. } = recovered(&layout).expect(&rt, "a start");
-    must(&rt, begun == 0 && kept.len() == 3, "three are kept");
-    let mut spool = FolderSpool::new(layout, 100);
-    spool.keep(kept);
-    must(&rt, is_idle(folder, &mut spool), "none is handed over");
-    // An answer that is whole is not written again.
-    let answer = "in-a-line.answer";
-    let before = folder.see("cur", answer);
-    thread::sleep(&rt, Duration::from_millis(20));
-    must(&rt, is_idle(folder, &mut spool), "nor later");
-    must(&rt, folder.is_as_seen("cur", answer, before), answer);
-    for state in &STATES[1..4] {
-        must(&rt, folder.unmake("done", state.name), state.name);
-    }
-    // The three answers go together.
-    must(&rt, done(folder, &mut spool) == 0, "no script is done");
-    let is_over = spool.answered() == 3 && spool.kept() == 0;
-    must(&rt, is_over, "three are handed over");
-    for state in &STATES[1..4] {
-        must(&rt, is_recovered(folder, state), state.name);
-    }
-    must(&rt, folder.end_spool(spool, held), "its end");
+    run(&rt, Folder { rt, path }, 100, &BARRED_THREE);
 }
+
+static BOTH: [Row; 5] = [
+    (PLAIN, "a script"),
+    (LinkHard("new", "cur", "plain"), "a claim"),
+    (Recovers(0, 0, 0), "a start"),
+    (At("new", "", Has(0)), "`new` is empty"),
+    (At("cur", "", Has(0)), "`cur` is empty"),
+];
 
 #[test]
 fn a_script_under_both_names(rt: HostRuntime) {
     let path = "a_script_under_both_names.spool";
-    let folder = Folder { rt, path };
-    let (layout, held) = folder.take().expect(&rt, "a folder");
-    must(&rt, put_plain(folder), "a script");
-    must(&rt, folder.link_hard("new", "cur", "plain"), "a claim");
-    must(&rt, recovered(&layout).is_some(), "a start");
-    must(&rt, folder.has("new", 0), "`new` is empty");
-    must(&rt, folder.has("cur", 0), "`cur` is empty");
-    must(&rt, folder.end(layout, held), "its end");
+    run(&rt, Folder { rt, path }, 100, &BOTH);
 }
+
+static OVER_LIMIT: [Row; 4] = [
+    (PLAIN, "a script"),
+    (
+        Answer("", Meanwhile::Filled),
+        "a byte over the limit is refused",
+    ),
+    (
+        At("done", "plain", HasText("fault 54 WriteFault\n")),
+        "the answer gives way",
+    ),
+    (IsOver(true), "it took all that it may"),
+];
 
 #[test]
 fn an_answer_over_its_limit(rt: HostRuntime) {
     let path = "an_answer_over_its_limit.spool";
-    let folder = Folder { rt, path };
-    let (layout, held) = folder.take().expect(&rt, "a folder");
-    must(&rt, put_plain(folder), "a script");
-    let mut spool = FolderSpool::new(layout, 1);
-    let is_filled = answer(folder, &mut spool, "", Meanwhile::Filled) == Some(true);
-    must(&rt, is_filled, "a byte over the limit is refused");
-    let is_told = folder.has_text("done", "plain", "fault 54 WriteFault\n");
-    must(&rt, is_told, "the answer gives way");
-    must(&rt, spool.is_over(), "it took all that it may");
-    must(&rt, folder.end_spool(spool, held), "its end");
+    run(&rt, Folder { rt, path }, 1, &OVER_LIMIT);
 }
+
+static NO_NEW: [Row; 1] = [(At("new", "", Has(0)), "`new` is empty")];
 
 // Whether a script that no server takes is taken back.
 fn is_not_taken(folder: Folder, layout: &FolderLayout) -> bool {
     ends_so(folder, layout, &mut io::sink(), Some(1), End::NotTaken, "")
 }
 
+static NO_SCRIPT: [Row; 2] = [
+    (At("new", "", Has(0)), "`new` is empty"),
+    (At("tmp", "", Has(0)), "`tmp` is empty"),
+];
+
 #[test]
 fn a_script_that_nobody_takes(rt: HostRuntime) {
     let path = "a_script_that_nobody_takes.spool";
     let folder = Folder { rt, path };
-    let (layout, held) = folder.take().expect(&rt, "a folder");
-    must(&rt, is_not_taken(folder, &layout), "it is taken back");
-    must(&rt, folder.has("new", 0), "`new` is empty");
-    must(&rt, folder.has("tmp", 0), "`tmp` is empty");
-    must(&rt, folder.end(layout, held), "its end");
+    let mut server = folder.server(&rt, 1);
+    must(
+        &rt,
+        is_not_taken(folder, &server.layout),
+        "it is taken back",
+    );
+    server.runs(&rt, &NO_SCRIPT);
+    end(&rt, server);
 }
 
 // A server that answers once its client says that it is waiting.
 #[derive(Drop)]
-struct Server {
+struct Answering {
     folder: Folder,
     spool: FolderSpool,
     text: &'static str,
 }
 
-impl Write for Server {
+impl Write for Answering {
     fn write(&mut self, bytes: &[u8]) -> io::Result<usize> {
         let _ = answer(self.folder, &mut self.spool, self.text, Meanwhile::Nothing);
         Ok(bytes.len())
@@ -410,67 +406,75 @@ impl Read for Watched {
     }
 }
 
+static OTHER_STAYS: [Row; 1] = [(At("done", "", Has(1)), "that of the other one stays")];
+
 #[test]
 fn a_name_that_was_seen_in_tmp(rt: HostRuntime) {
     let path = "a_name_that_was_seen_in_tmp.spool";
     let folder = Folder { rt, path };
-    let (layout, held) = folder.take().expect(&rt, "a folder");
-    let spool = second(&layout, 1).expect(&rt, "a client");
+    let mut server = folder.server(&rt, 1);
     let mut script = Watched {
         folder,
-        spool,
+        spool: second(&server.layout, 1).expect(&rt, "a client"),
         text: b"list\n",
         is_forged: false,
     };
-    let mut server = Server {
+    let mut answering = Answering {
         folder,
-        spool: second(&layout, 1).expect(&rt, "another client"),
+        spool: second(&server.layout, 1).expect(&rt, "another client"),
         text: "unit a\nok 2\n",
     };
-    let is_right = is_answered(folder, &layout, &mut script, &mut server, "unit a\nok 2\n");
+    let text = answering.text;
+    let is_right = is_answered(folder, &server.layout, &mut script, &mut answering, text);
     must(&rt, script.is_forged, "the other script is answered");
     must(&rt, is_right, "its answer is not taken for this one's");
-    must(&rt, folder.has("done", 1), "that of the other one stays");
     drop(script);
-    drop(server);
-    must(&rt, folder.end(layout, held), "its end");
+    drop(answering);
+    server.runs(&rt, &OTHER_STAYS);
+    end(&rt, server);
 }
+
+static OTHER_WAITS: [Row; 2] = [
+    (At("new", "", Has(1)), "the other one waits"),
+    (At("done", "", Has(0)), "`done` is empty"),
+];
 
 #[test]
 fn another_script_in_the_place_of_a_claimed_one(rt: HostRuntime) {
     let path = "another_script_in_the_place_of_a_claimed_one.spool";
     let folder = Folder { rt, path };
-    let (layout, held) = folder.take().expect(&rt, "a folder");
-    let mut spool = second(&layout, 1).expect(&rt, "a client");
+    let mut server = folder.server(&rt, 1);
+    let mut other = server.second(&rt, 1);
+    let (layout, spool) = (&server.layout, &mut other.spool);
     let (is_right, is_done) = thread::join(
         &rt,
-        || is_served(folder, &layout),
-        || answer_one(folder, &mut spool, "ok 1\n", Meanwhile::Replaced),
+        || is_served(folder, layout),
+        || answer_one(folder, spool, "ok 1\n", Meanwhile::Replaced),
     );
+    drop(other);
     must(&rt, is_done, "it is claimed");
     // The client waited for its own answer, and left the other one where it is.
     must(&rt, is_right, "it is answered");
-    must(&rt, folder.has("new", 1), "the other one waits");
-    must(&rt, folder.has("done", 0), "`done` is empty");
-    drop(layout);
-    must(&rt, folder.end_spool(spool, held), "its end");
+    server.runs(&rt, &OTHER_WAITS);
+    end(&rt, server);
 }
 
 #[test]
 fn a_script_that_has_another_number(rt: HostRuntime) {
     let path = "a_script_that_has_another_number.spool";
     let folder = Folder { rt, path };
-    let (layout, held) = folder.take().expect(&rt, "a folder");
+    let mut server = folder.server(&rt, 1);
+    let layout = &server.layout;
     let (is_right, is_done) = thread::join(
         &rt,
-        || is_not_taken(folder, &layout),
+        || is_not_taken(folder, layout),
         || renumber_one(folder),
     );
     must(&rt, is_done, "it has another number");
     // The file is recognised as the script that was left, and is taken back.
     must(&rt, is_right, "it is taken back");
-    must(&rt, folder.has("new", 0), "`new` is empty");
-    must(&rt, folder.end(layout, held), "its end");
+    server.runs(&rt, &NO_NEW);
+    end(&rt, server);
 }
 
 // An answer, and the number of the fault that it reports last, if it reports one.
@@ -488,211 +492,267 @@ fn tells(folder: Folder, layout: &FolderLayout, text: &'static str, number: Opti
     let Some(spool) = second(layout, 1) else {
         return false;
     };
-    let mut server = Server {
+    let mut server = Answering {
         folder,
         spool,
         text,
     };
     let end = End::Answered(number);
-    ends_so(folder, layout, &mut server, None, end, text) && folder.has("done", 0)
+    let is_so = ends_so(folder, layout, &mut server, None, end, text);
+    drop(server);
+    is_so && folder.at("done", "", Has(0))
 }
 
 #[test]
 fn which_fault_an_answer_tells(rt: HostRuntime) {
     let path = "which_fault_an_answer_tells.spool";
     let folder = Folder { rt, path };
-    let (layout, held) = folder.take().expect(&rt, "a folder");
+    let server = folder.server(&rt, 1);
     for (text, number) in &ANSWERS {
-        must(&rt, tells(folder, &layout, text, *number), text);
+        must(&rt, tells(folder, &server.layout, text, *number), text);
     }
-    must(&rt, folder.end(layout, held), "its end");
+    end(&rt, server);
 }
+
+static NO_ENTRIES: [Row; 1] = [(Entries(10, 0), "none at first")];
+
+static TEN_ENTRIES: [Row; 2] = [
+    (Entries(100, 10), "ten, whatever they are"),
+    (Entries(9, 9), "as many as are asked for"),
+];
 
 #[test]
 fn how_many_entries(rt: HostRuntime) {
     let path = "how_many_entries.spool";
-    let folder = Folder { rt, path };
-    let (layout, held) = folder.take().expect(&rt, "a folder");
-    must(&rt, counts(&layout, 10, 0), "none at first");
-    for row in &ROWS {
-        must(&rt, put(folder, row), row.name);
-    }
-    must(&rt, counts(&layout, 100, 10), "ten, whatever they are");
-    must(&rt, counts(&layout, 9, 9), "as many as are asked for");
-    must(&rt, folder.end(layout, held), "its end");
+    let mut server = Folder { rt, path }.server(&rt, 100);
+    server.runs(&rt, &NO_ENTRIES);
+    server.runs(&rt, &PUT_THINGS);
+    server.runs(&rt, &TEN_ENTRIES);
+    end(&rt, server);
 }
 
 // Makes as many directories as the number of names that a client keeps.
 fn fill_with_directories(folder: Folder) -> bool {
     for number in 1000..2024 {
         match format!(in folder.rt.alloc(); "0-{number}") {
-            Ok(name) if folder.make("new", name.as_str()) => {}
+            Ok(name) if folder.at("new", name.as_str(), Make) => {}
             _ => return false,
         }
     }
     true
 }
 
+// There are as many names as a client tries in one go, and none of them can be claimed. They are passed over then. A change within
+// the grain of the clock is seen when the client looks later.
+static HIDDEN: [Row; 6] = [
+    (PLAIN, "a script"),
+    (Done(0), "none of the first"),
+    (Done(1), "the one after them"),
+    (At("new", "1", Put("")), "another one after them"),
+    (Wait(200), "a moment"),
+    (Done(1), "it is the first"),
+];
+
 #[test]
 fn names_that_hide_no_script(rt: HostRuntime) {
     let path = "names_that_hide_no_script.spool";
     let folder = Folder { rt, path };
-    let (layout, held) = folder.take().expect(&rt, "a folder");
+    let mut server = folder.server(&rt, 100);
     must(&rt, fill_with_directories(folder), "directories");
-    must(&rt, put_plain(folder), "a script");
-    let mut spool = FolderSpool::new(layout, 100);
-    // There are as many names as a client tries in one go, and none of them can be claimed.
-    must(&rt, done(folder, &mut spool) == 0, "none of the first");
-    must(&rt, done(folder, &mut spool) == 1, "the one after them");
-    // These names are passed over then.
-    must(&rt, folder.write("new", "1", ""), "another one after them");
-    // A change within the grain of the clock is seen when the client looks later.
-    thread::sleep(&rt, Duration::from_millis(200));
-    must(&rt, done(folder, &mut spool) == 1, "it is the first");
-    must(&rt, folder.end_spool(spool, held), "its end");
+    server.runs(&rt, &HIDDEN);
+    end(&rt, server);
 }
 
-// Whether a client sees no one waiting, although another client is busy too: nothing is there that can be claimed.
-fn is_left_alone(folder: Folder, spool: &FolderSpool) -> bool {
-    let is_alone = !spool.is_awaited();
-    is_alone && folder.make("new", "a-directory") && !spool.is_awaited()
-}
+static BEGUN: [Row; 5] = [
+    (PLAIN, "a script"),
+    (Begin, "the script"),
+    (At("new", "second", Put("")), "one more"),
+    (IsLong(true), "it has no time"),
+    (IsAwaited(false), "the other client is free"),
+];
+
+static BEGUN_TOO: [Row; 1] = [(Begin, "that one")];
+
+// Both clients are busy. A directory can't be claimed, so nobody waits for a script.
+static AWAITED: [Row; 6] = [
+    (IsAwaited(false), "nothing waits"),
+    (At("new", "a-directory", Make), "a directory"),
+    (IsAwaited(false), "still nothing waits"),
+    (At("new", "third", Put("")), "a third one"),
+    (IsSoonAwaited, "that waits for one"),
+    (IsAwaited(true), "which stays so"),
+];
+
+static ONE_IS_ENOUGH: [Row; 1] = [(IsAwaited(false), "one is enough")];
+
+static ENDED: [Row; 1] = [(Deliver(Some(61)), "its end")];
+
+static FREE: [Row; 1] = [(IsAwaited(false), "now one client is free")];
+
+static THIRD: [Row; 1] = [(Begin, "the third one")];
+
+static STOPPED_TOO: [Row; 4] = [
+    (IsAwaited(false), "nothing waits"),
+    (At(".", "stop", Put("")), "a stop"),
+    (IsAwaited(true), "the end of the server waits"),
+    (Deliver(None), "the end of that one"),
+];
+
+static ALL_ANSWERED: [Row; 2] = [
+    (Deliver(None), "the end of the third one"),
+    (At("done", "", Has(3)), "all are answered"),
+];
 
 #[test]
 fn when_others_wait_for_a_script(rt: HostRuntime) {
     let path = "when_others_wait_for_a_script.spool";
-    let folder = Folder { rt, path };
-    let (layout, held) = folder.take_to_serve(2, 0).expect(&rt, "a folder");
-    let mut one = second(&layout, 100).expect(&rt, "a client");
-    let mut other = second(&layout, 100).expect(&rt, "another one");
-    must(&rt, put_plain(folder), "a script");
-    let (script, answer) = begun(&mut one).expect(&rt, "the script");
-    must(&rt, folder.write("new", "second", ""), "one more");
-    must(&rt, one.is_long(), "it has no time");
-    must(&rt, !one.is_awaited(), "the other client is free");
-    let (next, its) = begun(&mut other).expect(&rt, "that one");
-    must(&rt, is_left_alone(folder, &one), "nothing waits");
-    must(&rt, folder.write("new", "third", ""), "a third one");
-    must(&rt, is_soon_awaited(folder, &one), "that waits for one");
-    must(&rt, one.is_awaited(), "which stays so");
-    must(&rt, !other.is_awaited(), "one is enough");
-    one.deliver(script, answer, Some(61));
-    must(&rt, !other.is_awaited(), "now one client is free");
-    let (third, last) = begun(&mut one).expect(&rt, "the third one");
-    must(&rt, !other.is_awaited(), "nothing waits");
-    must(&rt, folder.write(".", "stop", ""), "a stop");
-    must(&rt, other.is_awaited(), "the end of the server waits");
-    other.deliver(next, its, None);
-    one.deliver(third, last, None);
-    must(&rt, folder.has("done", 3), "all are answered");
-    drop(layout);
+    let mut server = Folder { rt, path }.server_for(&rt, 2, 0);
+    let mut other = server.second(&rt, 100);
+    server.runs(&rt, &BEGUN);
+    other.runs(&rt, &BEGUN_TOO);
+    server.runs(&rt, &AWAITED);
+    other.runs(&rt, &ONE_IS_ENOUGH);
+    server.runs(&rt, &ENDED);
+    other.runs(&rt, &FREE);
+    server.runs(&rt, &THIRD);
+    other.runs(&rt, &STOPPED_TOO);
+    server.runs(&rt, &ALL_ANSWERED);
     drop(other);
-    must(&rt, folder.end_spool(one, held), "its end");
+    end(&rt, server);
 }
+
+static IN_TIME: [Row; 5] = [
+    (PLAIN, "a script"),
+    (IsLong(false), "there is none"),
+    (Begin, "the script"),
+    (IsLong(false), "it has an hour"),
+    (Deliver(None), "its answer"),
+];
 
 #[test]
 fn a_script_that_has_its_time(rt: HostRuntime) {
     let path = "a_script_that_has_its_time.spool";
-    let folder = Folder { rt, path };
-    let (layout, held) = folder.take_to_serve(1, 3600).expect(&rt, "a folder");
-    let mut spool = FolderSpool::new(layout, 100);
-    must(&rt, put_plain(folder), "a script");
-    must(&rt, !spool.is_long(), "there is none");
-    let (script, answer) = begun(&mut spool).expect(&rt, "the script");
-    must(&rt, !spool.is_long(), "it has an hour");
-    spool.deliver(script, answer, None);
-    must(&rt, folder.end_spool(spool, held), "its end");
+    let mut server = Folder { rt, path }.server_for(&rt, 1, 3600);
+    server.runs(&rt, &IN_TIME);
+    end(&rt, server);
 }
+
+static FOLDER: [Row; 1] = [(At("", "", Make), "a folder")];
+
+static FOREIGN: [Row; 3] = [
+    (IsRefused, "it is another user's"),
+    (At(".", "lock", IsAbsent), "no lock is made"),
+    (At("", "", Has(0)), "nor anything else"),
+];
 
 #[test]
 fn a_folder_of_another_user(rt: HostRuntime) {
     let path = "a_folder_of_another_user.spool";
     let folder = Folder { rt, path };
-    must(&rt, folder.make("", ""), "a folder");
+    folder.runs(&rt, &FOLDER);
     // Only root can give the folder away.
-    if folder.give("", 1) {
-        must(&rt, folder.is_refused(), "it is another user's");
-        must(&rt, !folder.is_there(".", "lock"), "no lock is made");
-        must(&rt, folder.has("", 0), "nor anything else");
+    if folder.give(1) {
+        folder.runs(&rt, &FOREIGN);
     }
     must(&rt, folder.remove_all(), "its end");
 }
 
+static NO_SPOOL: [Row; 5] = [
+    (At("tmp", "", Make), "a folder"),
+    (At("tmp", "notes", Put("text")), "a file"),
+    (IsRefused, "it is no spool"),
+    (At("tmp", "notes", IsThere), "the file is there"),
+    (At(".", "lock", IsAbsent), "no lock is made"),
+];
+
 #[test]
 fn a_folder_that_is_no_spool(rt: HostRuntime) {
     let path = "a_folder_that_is_no_spool";
-    let folder = Folder { rt, path };
-    must(&rt, folder.make("tmp", ""), "a folder");
-    must(&rt, folder.write("tmp", "notes", "text"), "a file");
-    must(&rt, folder.is_refused(), "it is no spool");
-    must(&rt, folder.is_there("tmp", "notes"), "the file is there");
-    must(&rt, !folder.is_there(".", "lock"), "no lock is made");
-    must(&rt, folder.remove_all(), "its end");
+    run_alone(&rt, Folder { rt, path }, &NO_SPOOL);
 }
+
+static EVERYBODYS: [Row; 4] = [
+    (At("", "", Make), "a directory"),
+    (At("", "", SetRights(0o1777)), "everybody's"),
+    (IsRefused, "it is refused"),
+    (At(".", "lock", IsAbsent), "no lock is made"),
+];
 
 #[test]
 fn a_folder_that_everybody_may_write_to(rt: HostRuntime) {
     let path = "a_folder_that_everybody_may_write_to.spool";
-    let folder = Folder { rt, path };
-    must(&rt, folder.make("", ""), "a directory");
-    must(&rt, folder.set_rights("", 0o1777), "everybody's");
-    must(&rt, folder.is_refused(), "it is refused");
-    must(&rt, !folder.is_there(".", "lock"), "no lock is made");
-    must(&rt, folder.remove_all(), "its end");
+    run_alone(&rt, Folder { rt, path }, &EVERYBODYS);
 }
 
-// What a folder has before it is cleared: the part, the name, and whether the file is removed.
-static OLD: [(&str, &str, bool); 8] = [
-    ("tmp", "old", true),
-    ("tmp", ".hidden", false),
-    ("tmp", "notes.txt", false),
-    ("tmp", "link", false),
+// What a folder has before it is cleared, and what is still there after that.
+static CLEARED: [Row; 19] = [
+    (At("tmp", "old", Put("text")), "old"),
+    (At("tmp", ".hidden", Put("text")), ".hidden"),
+    (At("tmp", "notes.txt", Put("text")), "notes.txt"),
+    (At("tmp", "link", Link("/etc/hostname")), "link"),
     // A script that waits, and one that was claimed.
-    ("new", "waits", false),
-    ("cur", "claimed", false),
+    (At("new", "waits", Put("text")), "waits"),
+    (At("cur", "claimed", Put("text")), "claimed"),
     // The files with which a start that was killed tried whether it could write to these parts.
-    ("new", ".try-1", true),
-    ("cur", ".try-2", true),
+    (At("new", ".try-1", Put("text")), ".try-1"),
+    (At("cur", ".try-2", Put("text")), ".try-2"),
+    (Wait(1100), "a second"),
+    (Clears(1, 0), "none is a day old"),
+    (Clears(0, 3), "three are taken away"),
+    (At("tmp", "old", IsAbsent), "old, afterwards"),
+    (At("tmp", ".hidden", IsThere), ".hidden, afterwards"),
+    (At("tmp", "notes.txt", IsThere), "notes.txt, afterwards"),
+    (At("tmp", "link", IsThere), "link, afterwards"),
+    (At("new", "waits", IsThere), "waits, afterwards"),
+    (At("cur", "claimed", IsThere), "claimed, afterwards"),
+    (At("new", ".try-1", IsAbsent), ".try-1, afterwards"),
+    (At("cur", ".try-2", IsAbsent), ".try-2, afterwards"),
 ];
 
 #[test]
 fn what_is_cleared(rt: HostRuntime) {
     let path = "what_is_cleared.spool";
-    let folder = Folder { rt, path };
-    let (layout, held) = folder.take().expect(&rt, "a folder");
-    must(&rt, folder.link("tmp", "link", "/etc/hostname"), "a link");
-    for (part, name, _) in &OLD {
-        let is_made = folder.is_there(part, name) || folder.write(part, name, "text");
-        must(&rt, is_made, name);
-    }
-    thread::sleep(&rt, Duration::from_millis(1100));
-    must(&rt, clears(&layout, 1, 0), "none is a day old");
-    must(&rt, clears(&layout, 0, 3), "three are taken away");
-    for (part, name, is_old) in &OLD {
-        must(&rt, folder.is_there(part, name) != *is_old, name);
-    }
-    must(&rt, folder.end(layout, held), "its end");
+    run(&rt, Folder { rt, path }, 100, &CLEARED);
 }
+
+static LINKED: [Row; 5] = [
+    (At("victim", "", Make), "a directory"),
+    (At("victim", "", SetRights(0o700)), "its rights"),
+    (At(".", ".making-new", Link("victim")), "a link"),
+    (IsRefused, "it is refused"),
+    (At(".", "victim", HasRights(0o700)), "the same rights"),
+];
 
 #[test]
 fn a_link_in_the_place_of_a_part(rt: HostRuntime) {
     let path = "a_link_in_the_place_of_a_part.spool";
-    let folder = Folder { rt, path };
-    must(&rt, folder.make("victim", ""), "a directory");
-    must(&rt, folder.set_rights("victim", 0o700), "its rights");
-    must(&rt, folder.link(".", ".making-new", "victim"), "a link");
-    must(&rt, folder.is_refused(), "it is refused");
-    must(&rt, folder.has_rights("victim", 0o700), "the same rights");
-    must(&rt, folder.remove_all(), "its end");
+    run_alone(&rt, Folder { rt, path }, &LINKED);
 }
 
 // Whether a spool whose folder was moved finds nothing, and another client of that folder goes on unless the folder counts as
 // lost.
-fn goes_on(folder: Folder, spool: &mut FolderSpool, busy: &mut FolderSpool) -> bool {
-    !spool.is_over()
-        && answer(folder, spool, "", Meanwhile::Nothing).is_none()
-        && (spool.has_failed() || !busy.is_over())
+fn goes_on(client: &mut Client, busy: &mut Client) -> bool {
+    !client.spool.is_over()
+        && answer(client.folder, &mut client.spool, "", Meanwhile::Nothing).is_none()
+        && (client.spool.has_failed() || !busy.spool.is_over())
 }
+
+// How many seconds a client goes on whose folder was moved.
+fn lasts(rt: &impl Abort, client: &mut Client, busy: &mut Client) -> u64 {
+    let clock = client.folder.rt;
+    let began = Instant::now(&clock).expect(rt, "the time");
+    for _ in 0..1000 {
+        must(rt, goes_on(client, busy), "it goes on");
+        if client.spool.has_failed() {
+            break;
+        }
+    }
+    began.elapsed(&clock).expect(rt, "the time").as_secs()
+}
+
+static LOST: [Row; 2] = [(IsOver(true), "it is over"), (HasFailed, "it is lost")];
+
+static STILL_WAITS: [Row; 1] = [(At("new", "plain", IsThere), "the script waits")];
 
 #[test]
 fn a_folder_that_was_moved(rt: HostRuntime) {
@@ -700,108 +760,100 @@ fn a_folder_that_was_moved(rt: HostRuntime) {
     let folder = Folder { rt, path };
     let path = "a_folder_that_was_moved.old";
     let moved = Folder { rt, path };
-    let (layout, held) = folder.take().expect(&rt, "a folder");
+    let mut server = folder.server(&rt, 100);
     // There are two clients; `busy` takes no script meanwhile.
-    let mut busy = second(&layout, 100).expect(&rt, "a client");
-    let mut spool = FolderSpool::new(layout, 100);
+    let mut busy = server.second(&rt, 100);
     must(&rt, folder.move_to(moved), "it is moved");
-    let (other, also_held) = folder.take().expect(&rt, "another folder");
+    let mut other = folder.server(&rt, 100);
     must(&rt, put_plain(folder), "a script");
-    let began = Instant::now(&rt).expect(&rt, "the time");
-    for _ in 0..1000 {
-        must(&rt, goes_on(folder, &mut spool, &mut busy), "it goes on");
-        if spool.has_failed() {
-            break;
-        }
-    }
-    let since = began.elapsed(&rt).expect(&rt, "the time");
-    must(&rt, 6 <= since.as_secs(), "six seconds long");
-    must(&rt, spool.is_over() && spool.has_failed(), "it is lost");
+    let seconds = lasts(&rt, &mut server.client, &mut busy);
+    must(&rt, 6 <= seconds, "six seconds long");
+    server.runs(&rt, &LOST);
     // This client would be the only one to go on, and is over too.
-    must(&rt, busy.is_over() && busy.has_failed(), "to both");
-    must(&rt, folder.is_there("new", "plain"), "the script waits");
-    must(&rt, folder.end(other, also_held), "its end");
+    busy.runs(&rt, &LOST);
+    other.runs(&rt, &STILL_WAITS);
+    end(&rt, other);
     drop(busy);
-    must(&rt, moved.end_spool(spool, held), "that of the moved one");
+    drop(server);
+    must(&rt, moved.remove_all(), "the end of the moved one");
 }
+
+static BARRED: [Row; 8] = [
+    (At("done", "plain", Make), "a bar"),
+    (PLAIN, "a script"),
+    (Done(1), "it is done"),
+    (Counts(0, 1), "its answer is kept"),
+    (At("done", "plain", Unmake), "the bar is gone"),
+    (Done(0), "none is done"),
+    (Counts(1, 0), "the answer is handed over"),
+    (At("done", "plain", HasText("ok\n")), "as it was"),
+];
 
 #[test]
 fn an_answer_whose_way_is_barred(rt: HostRuntime) {
     let path = "an_answer_whose_way_is_barred.spool";
-    let folder = Folder { rt, path };
-    let (layout, held) = folder.take().expect(&rt, "a folder");
-    must(&rt, folder.make("done", "plain"), "a bar");
-    must(&rt, put_plain(folder), "a script");
-    let mut spool = FolderSpool::new(layout, 100);
-    must(&rt, done(folder, &mut spool) == 1, "it is done");
-    let is_kept = spool.answered() == 0 && spool.kept() == 1;
-    must(&rt, is_kept, "its answer is kept");
-    must(&rt, folder.unmake("done", "plain"), "the bar is gone");
-    must(&rt, done(folder, &mut spool) == 0, "none is done");
-    let is_over = spool.answered() == 1 && spool.kept() == 0;
-    must(&rt, is_over, "the answer is handed over");
-    must(&rt, folder.has_text("done", "plain", "ok\n"), "as it was");
-    must(&rt, folder.end_spool(spool, held), "its end");
+    run(&rt, Folder { rt, path }, 100, &BARRED);
 }
+
+static MOVED: [Row; 5] = [
+    (PLAIN, "a script"),
+    (Answer("ok\n", Meanwhile::Moved), "its answer is moved"),
+    (Counts(1, 0), "it is handed over"),
+    (At("done", "plain", HasText("ok\n")), "as it was"),
+    (At("cur", "", Has(0)), "`cur` is empty"),
+];
 
 #[test]
 fn an_answer_that_was_moved_unseen(rt: HostRuntime) {
     let path = "an_answer_that_was_moved_unseen.spool";
-    let folder = Folder { rt, path };
-    let (layout, held) = folder.take().expect(&rt, "a folder");
-    must(&rt, put_plain(folder), "a script");
-    let mut spool = FolderSpool::new(layout, 1);
-    let is_moved = answer(folder, &mut spool, "ok\n", Meanwhile::Moved) == Some(true);
-    must(&rt, is_moved, "its answer is moved");
-    let is_over = spool.answered() == 1 && spool.kept() == 0;
-    must(&rt, is_over, "it is handed over");
-    must(&rt, folder.has_text("done", "plain", "ok\n"), "as it was");
-    must(&rt, folder.has("cur", 0), "`cur` is empty");
-    must(&rt, folder.end_spool(spool, held), "its end");
+    run(&rt, Folder { rt, path }, 1, &MOVED);
 }
+
+// The second script waits until the answer to the first one is removed. Its name is passed over for a second.
+static TWICE: [Row; 7] = [
+    (PLAIN, "a script"),
+    (Done(1), "it is done"),
+    (PLAIN, "a second one"),
+    (Done(0), "it waits"),
+    (At("done", "plain", Remove), "the way is free"),
+    (Wait(1100), "a second"),
+    (Done(1), "it is done too"),
+];
 
 #[test]
 fn a_second_script_of_a_name(rt: HostRuntime) {
     let path = "a_second_script_of_a_name.spool";
-    let folder = Folder { rt, path };
-    let (layout, held) = folder.take().expect(&rt, "a folder");
-    must(&rt, put_plain(folder), "a script");
-    let mut spool = FolderSpool::new(layout, 100);
-    must(&rt, done(folder, &mut spool) == 1, "it is done");
-    // The second script waits until the answer to the first one is removed.
-    must(&rt, put_plain(folder), "a second one");
-    must(&rt, done(folder, &mut spool) == 0, "it waits");
-    must(&rt, folder.remove("done", "plain"), "the way is free");
-    // The name is passed over for a second.
-    thread::sleep(&rt, Duration::from_millis(1100));
-    must(&rt, done(folder, &mut spool) == 1, "it is done too");
-    must(&rt, folder.end_spool(spool, held), "its end");
+    run(&rt, Folder { rt, path }, 100, &TWICE);
 }
 
-// The rights of the parts of a folder, if all may leave scripts and if a group may.
-static RIGHTS: [(&str, u32, u32); 5] = [
-    ("cur", 0o700, 0o2700),
-    ("done", 0o755, 0o2770),
-    ("new", 0o3777, 0o2770),
-    ("tmp", 0o3777, 0o2770),
-    ("lock", 0o644, 0o660),
+// The rights of the parts of a folder, if all may leave scripts.
+static RIGHTS: [Row; 5] = [
+    (At(".", "cur", HasRights(0o700)), "cur"),
+    (At(".", "done", HasRights(0o755)), "done"),
+    (At(".", "new", HasRights(0o3777)), "new"),
+    (At(".", "tmp", HasRights(0o3777)), "tmp"),
+    (At(".", "lock", HasRights(0o644)), "lock"),
+];
+
+static GROUP: [Row; 2] = [
+    (At("", "", Make), "a directory"),
+    (At("", "", SetRights(0o2750)), "a group's"),
+];
+
+// The same if a group may.
+static GROUP_RIGHTS: [Row; 5] = [
+    (At(".", "cur", HasRights(0o2700)), "cur of a group"),
+    (At(".", "done", HasRights(0o2770)), "done of a group"),
+    (At(".", "new", HasRights(0o2770)), "new of a group"),
+    (At(".", "tmp", HasRights(0o2770)), "tmp of a group"),
+    (At(".", "lock", HasRights(0o660)), "lock of a group"),
 ];
 
 #[test]
 fn the_rights_of_a_folder(rt: HostRuntime) {
     let path = "the_rights_of_a_folder.spool";
     let folder = Folder { rt, path };
-    let (layout, held) = folder.take().expect(&rt, "a folder");
-    for (part, rights, _) in &RIGHTS {
-        must(&rt, folder.has_rights(part, *rights), part);
-    }
-    must(&rt, folder.end(layout, held), "its end");
-    // The folder of a group.
-    must(&rt, folder.make("", ""), "a directory");
-    must(&rt, folder.set_rights("", 0o2750), "a group's");
-    let (layout, held) = folder.take().expect(&rt, "a group's folder");
-    for (part, _, rights) in &RIGHTS {
-        must(&rt, folder.has_rights(part, *rights), part);
-    }
-    must(&rt, folder.end(layout, held), "its end");
+    run(&rt, folder, 100, &RIGHTS);
+    folder.runs(&rt, &GROUP);
+    run(&rt, folder, 100, &GROUP_RIGHTS);
 }
