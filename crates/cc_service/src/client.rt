@@ -14,12 +14,22 @@ use std::sync::ledger::Share;
 
 /// The caller. It has the receipts of its calls, its share of the ledger counts them, and its pass hands its jobs to the workers.
 /// Contracts see its number, its receipts, and what its pass has sent.
-#[derive(Drop)]
 pub struct Client<N: Named> {
     pub(crate) member: Member<N>,
     pub(crate) pass: Pass<N>,
     // Whether its changes compact the library if that makes room for them.
     pub(crate) compacts: bool,
+}
+
+// This is written by hand, so that the crates above use this proof and need not show again how each part is dropped.
+impl<N: Named> Drop for Client<N> {
+    fn drop(self) {
+        let Client {
+            member,
+            pass,
+            compacts: _,
+        } = self;
+    }
 }
 
 impl<N: Named> Model for Client<N> {
@@ -57,12 +67,29 @@ impl<N: Named> Client<N> {
     pub fn compacting(self) -> Client<N>
         ensures { result ≡ self }
     {
-        let Client { member, pass, .. } = self;
+        let Client {
+            member,
+            pass,
+            compacts: _,
+        } = self;
         Client {
             member,
             pass,
             compacts: true,
         }
+    }
+
+    // Its member and its pass.
+    pub(crate) fn into_parts(self) -> (Member<N>, Pass<N>)
+        ensures member { result.0 ≡ self.member }
+        ensures sent { result.1.sent ≡ self.sent }
+    {
+        let Client {
+            member,
+            pass,
+            compacts: _,
+        } = self;
+        (member, pass)
     }
 
     /// Its number.

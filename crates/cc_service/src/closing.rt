@@ -62,7 +62,7 @@ fn gather<N: Named>(rest: &mut Share<N>, clients: Vec<Client<N>>, left: &mut Lef
         passes,
     } = left;
     for client in clients {
-        let Client { member, pass, .. } = client;
+        let (member, pass) = client.into_parts();
         all.push_reserved(member.leave(rest));
         passes.push_reserved(pass);
     }
