@@ -19,6 +19,7 @@ A line of a file begins with a mark and a space (a mark alone: an empty text). E
     < add a 16                   a line of its standard input
     > ok 1                       a line of its standard output, which has to be these lines, whole
     >~ stack 16                  or: a line (with `\` at its end a part of one) that standard output has to have, among others
+    >+ open 1                    the line right after that one
     ! 1:5: no such name          a line of its standard error, which may be anything if there is no such line; `!~` as `>~`
     !-                           its standard error is empty
     ? 1                          its status; 0 without this line
@@ -132,6 +133,8 @@ def read_line(case, mark, rest, line):
     elif mark in ("<", "<*") and last.mark == "$" or mark in (">", ">*", "!", "!*") and last.mark in ("$", "&"):
         stream = STREAMS[mark[0]]
         setattr(last, stream, (getattr(last, stream) or b"") + (text(rest) if mark in STREAMS else repeated(rest)))
+    elif mark == ">+" and last.out_has:
+        last.out_has[-1] += text(rest)
     elif mark in PARTS and last.mark in ("$", "&"):
         getattr(last, PARTS[mark]).append(text(rest))
     elif mark == "!-" and last.mark in ("$", "&") and last.err is None and not rest:

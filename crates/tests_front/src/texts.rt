@@ -1,8 +1,5 @@
 // Texts that use the whole grammar, worked out by hand from C99 6.5 to 6.9 and the rules of docs/LANGUAGE.md.
 
-/// A text, and the number, line and column of its fault.
-pub type Refused = (&'static [u8], u32, usize, usize);
-
 /// Texts that are units.
 pub static SPELLED: [&[u8]; 62] = [
     b"int main(void){}",

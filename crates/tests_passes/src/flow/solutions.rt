@@ -4,7 +4,7 @@ use crate::flow::live::{A, B, C, Live, graph, of_nodes, set};
 use cc_flow::{Graph, solve_backward};
 use std::alloc::{AllocError, Global};
 use std::test::Fail;
-use tests_texts::verdict::each_passes;
+use tests_texts::verdict::row_passes;
 
 /// What a node reads, what it writes, and what is live before it.
 type Wanted = (u8, u8, u8);
@@ -87,5 +87,8 @@ fn is_solved(alloc: Global, row: &Code) -> Result<bool, Fail> {
 
 #[test]
 fn live_sets(rt: HostRuntime) -> Result<(), Fail> {
-    each_passes(rt.alloc(), CODES.as_slice(), is_solved)
+    for number in 0..CODES.len() {
+        row_passes(number, is_solved(rt.alloc(), &CODES[number]))?;
+    }
+    Ok(())
 }

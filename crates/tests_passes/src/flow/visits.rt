@@ -4,7 +4,7 @@ use crate::flow::live::{A, B, C, Code, idle, lead, put, set};
 use cc_flow::{Graph, solve_backward};
 use std::alloc::{AllocError, Global};
 use std::test::Fail;
-use tests_texts::verdict::each_passes;
+use tests_texts::verdict::row_passes;
 
 const NODES: usize = 4096;
 
@@ -95,5 +95,8 @@ fn is_solved(alloc: Global, row: &Long) -> Result<bool, Fail> {
 
 #[test]
 fn visits(rt: HostRuntime) -> Result<(), Fail> {
-    each_passes(rt.alloc(), LONG.as_slice(), is_solved)
+    for number in 0..LONG.len() {
+        row_passes(number, is_solved(rt.alloc(), &LONG[number]))?;
+    }
+    Ok(())
 }

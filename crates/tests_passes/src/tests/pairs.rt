@@ -1,11 +1,13 @@
-// From a text to the Cminor and the RTL of its functions.
+// From a text to the RTL of its functions, and what the validator says about an allocation.
 
 use cc_cminor::to_cminor;
 use cc_cminor_language::CminorPair;
+use cc_ltl::Ltl;
 use cc_rtl::{RtlPair, to_rtl};
 use cc_syntax::parse;
 use cc_types::TypedUnit;
 use cc_typing::check;
+use cc_validate::{Refused, validate};
 use std::alloc::Global;
 use std::sync::Arc;
 use std::test::Fail;
@@ -17,12 +19,8 @@ pub fn unit_of(alloc: Global, text: &[u8]) -> Result<Arc<TypedUnit>, Fail> {
     Ok(Arc::new(alloc, unit)?)
 }
 
-/// The Cminor of one function.
-pub fn cminor_of(
-    alloc: Global,
-    unit: &Arc<TypedUnit>,
-    function: usize,
-) -> Result<CminorPair, Fail> {
+// The Cminor of one function.
+fn cminor_of(alloc: Global, unit: &Arc<TypedUnit>, function: usize) -> Result<CminorPair, Fail> {
     if function >= unit.functions() {
         return Err(Fail::from("no such function"));
     }
@@ -41,6 +39,20 @@ pub fn rtl_of(alloc: Global, text: &[u8], function: usize) -> Result<RtlPair, Fa
     let pair = pair_of(alloc, &unit, function);
     drop(unit);
     pair
+}
+
+/// The number with which the validator refuses an allocation, or 0.
+pub fn verdict(alloc: Global, pair: RtlPair, ltl: Ltl) -> u32 {
+    match validate(alloc, pair, ltl) {
+        Ok(pair) => {
+            drop(pair);
+            0
+        }
+        Err(Refused { pair, fault }) => {
+            drop(pair);
+            fault.number()
+        }
+    }
 }
 
 /// The RTL of all functions.

@@ -2,16 +2,8 @@
 
 use super::functions::all_are_accepted;
 use std::test::Fail;
+use tests_texts::programs;
 use tests_texts::verdict::passes_for;
-use tests_texts::{programs, worked};
-
-#[test]
-fn worked_programs_are_accepted(rt: HostRuntime) -> Result<(), Fail> {
-    for (text, _) in worked::PROGRAMS.iter() {
-        passes_for(all_are_accepted(rt.alloc(), text.as_bytes()), text)?;
-    }
-    Ok(())
-}
 
 #[test]
 fn programs_of_calls_and_loops_are_accepted(rt: HostRuntime) -> Result<(), Fail> {

@@ -9,7 +9,6 @@ use cc_validate::validate;
 use std::alloc::Global;
 use std::sync::Arc;
 use std::test::Fail;
-use tests_texts::stages::Stage;
 
 /// The Linear of the function with this number.
 pub fn linear_of(
@@ -28,18 +27,21 @@ pub fn linear_of(
     }
 }
 
-/// Whether a text has `functions` functions, and each goes through and names itself and its unit.
+// Whether a function goes through, and names itself and its unit.
+fn goes_through(alloc: Global, unit: &Arc<TypedUnit>, function: usize) -> Result<bool, Fail> {
+    let pair = linear_of(alloc, unit, function)?;
+    let is_itself = pair.function() == function && pair.unit().text() == unit.text();
+    let right = is_itself && pair.slots() > 0 && !pair.code().is_empty();
+    drop(pair);
+    Ok(right)
+}
+
+/// Whether a text has `functions` functions, and each goes through.
 pub fn all_go_through(alloc: Global, text: &[u8], functions: usize) -> Result<bool, Fail> {
     let unit = unit_of(alloc, text)?;
     let mut right = unit.functions() == functions;
     for function in 0..functions {
-        let pair = linear_of(alloc, &unit, function)?;
-        right = right
-            && pair.function() == function
-            && pair.unit().text() == text
-            && pair.slots() > 0
-            && !pair.code().is_empty();
-        drop(pair);
+        right = right && goes_through(alloc, &unit, function)?;
     }
     drop(unit);
     Ok(right)
@@ -48,22 +50,10 @@ pub fn all_go_through(alloc: Global, text: &[u8], functions: usize) -> Result<bo
 /// The text of the Linear of one function.
 pub fn text_of_function(alloc: Global, text: &[u8], function: usize) -> Result<String, Fail> {
     let unit = unit_of(alloc, text)?;
-    let pair = linear_of(alloc, &unit, function)?;
-    let shown = pair.to_string(alloc)?;
-    drop(pair);
+    let made = linear_of(alloc, &unit, function);
     drop(unit);
-    Ok(shown)
-}
-
-/// The stage that leads to Linear.
-pub struct LinearStage;
-
-impl Stage for LinearStage {
-    fn all_go_through(alloc: Global, text: &[u8], functions: usize) -> Result<bool, Fail> {
-        all_go_through(alloc, text, functions)
-    }
-
-    fn text_of(alloc: Global, text: &[u8], function: usize) -> Result<Option<String>, Fail> {
-        Ok(Some(text_of_function(alloc, text, function)?))
-    }
+    let pair = made?;
+    let shown = pair.to_string(alloc);
+    drop(pair);
+    Ok(shown?)
 }

@@ -4,7 +4,7 @@ use super::helpers::all_go_through;
 use std::alloc::Global;
 use std::test::Fail;
 use tests_texts::parts::{Part, text_of};
-use tests_texts::verdict::each_passes;
+use tests_texts::verdict::row_passes;
 
 /// The parts of functions with some 4,000 nodes, and how many functions the text has. In the first one, 1,364 writes and a read
 /// make 4,096 nodes, the most that a function may have.
@@ -52,5 +52,8 @@ fn goes_through(alloc: Global, row: &Large) -> Result<bool, Fail> {
 
 #[test]
 fn largest_functions(rt: HostRuntime) -> Result<(), Fail> {
-    each_passes(rt.alloc(), LARGEST.as_slice(), goes_through)
+    for number in 0..LARGEST.len() {
+        row_passes(number, goes_through(rt.alloc(), &LARGEST[number]))?;
+    }
+    Ok(())
 }

@@ -1,12 +1,15 @@
 // The text of the Linear of whole functions, worked out by hand from the rules in `docs/INTERMEDIATE.md`: the nodes of RTL, the
 // blocks made from them with a slot for each register, and the order of the blocks.
 
-use super::helpers::LinearStage;
+use super::helpers::text_of_function;
+use std::alloc::Global;
 use std::test::Fail;
-use tests_texts::stages::shows_all;
+use tests_texts::verdict::row_passes;
 
 /// A text, the number of a function, and the text of its Linear.
-static SHOWN: [(&str, usize, &str); 4] = [
+type Row = (&'static str, usize, &'static str);
+
+static SHOWN: [Row; 4] = [
     // one block after the other; what comes after the return is never reached
     (
         "int f(int a,int b){return a-b;}int main(void){}",
@@ -95,7 +98,14 @@ static SHOWN: [(&str, usize, &str); 4] = [
     ),
 ];
 
+fn is_shown(alloc: Global, row: &Row) -> Result<bool, Fail> {
+    Ok(text_of_function(alloc, row.0.as_bytes(), row.1)?.as_str() == row.2)
+}
+
 #[test]
 fn texts_of_functions(rt: HostRuntime) -> Result<(), Fail> {
-    shows_all::<LinearStage>(rt.alloc(), SHOWN.as_slice())
+    for number in 0..SHOWN.len() {
+        row_passes(number, is_shown(rt.alloc(), &SHOWN[number]))?;
+    }
+    Ok(())
 }

@@ -3,7 +3,7 @@
 use cc_ltl::{LtlFault, read_ltl, write_ltl};
 use std::alloc::{AllocError, Global};
 use std::test::Fail;
-use tests_texts::verdict::{each_passes, passes, row_passes};
+use tests_texts::verdict::{passes, row_passes};
 
 // One block with label 0 that returns, without slots, and entry 0.
 const RETURNS: &[u8] =
@@ -102,7 +102,10 @@ fn is_limit(alloc: Global, row: &Limit) -> Result<bool, Fail> {
 
 #[test]
 fn limits(rt: HostRuntime) -> Result<(), Fail> {
-    each_passes(rt.alloc(), LIMITS.as_slice(), is_limit)
+    for number in 0..LIMITS.len() {
+        row_passes(number, is_limit(rt.alloc(), &LIMITS[number]))?;
+    }
+    Ok(())
 }
 
 static LIMITS: [Limit; 21] = [
@@ -160,7 +163,10 @@ static TAILS: [Tail; 6] = [
 
 #[test]
 fn ends_of_functions(rt: HostRuntime) -> Result<(), Fail> {
-    each_passes(rt.alloc(), TAILS.as_slice(), is_with_tail)
+    for number in 0..TAILS.len() {
+        row_passes(number, is_with_tail(rt.alloc(), &TAILS[number]))?;
+    }
+    Ok(())
 }
 
 // The bytes of a function, and its listing.
@@ -186,7 +192,10 @@ fn is_listed(alloc: Global, row: &Listed) -> Result<bool, Fail> {
 
 #[test]
 fn listings(rt: HostRuntime) -> Result<(), Fail> {
-    each_passes(rt.alloc(), LISTED.as_slice(), is_listed)
+    for number in 0..LISTED.len() {
+        row_passes(number, is_listed(rt.alloc(), &LISTED[number]))?;
+    }
+    Ok(())
 }
 
 type Fault = (LtlFault, u32, &'static str);
@@ -203,5 +212,8 @@ fn is_fault(alloc: Global, row: &Fault) -> Result<bool, Fail> {
 
 #[test]
 fn faults(rt: HostRuntime) -> Result<(), Fail> {
-    each_passes(rt.alloc(), FAULTS.as_slice(), is_fault)
+    for number in 0..FAULTS.len() {
+        row_passes(number, is_fault(rt.alloc(), &FAULTS[number]))?;
+    }
+    Ok(())
 }

@@ -4,7 +4,7 @@ use cc_ltl::{Block, Ltl, Move, Moves, Operation, Register, Slot, write_ltl};
 use std::alloc::Global;
 use std::test::Fail;
 use tests_texts::lists::{alone, both};
-use tests_texts::verdict::{each_passes, passes};
+use tests_texts::verdict::{passes, row_passes};
 
 #[test]
 fn registers_and_slots(_rt: HostRuntime) -> Result<(), Fail> {
@@ -94,7 +94,10 @@ fn is_made(alloc: Global, row: &Parts) -> Result<bool, Fail> {
 
 #[test]
 fn functions_from_parts(rt: HostRuntime) -> Result<(), Fail> {
-    each_passes(rt.alloc(), PARTS.as_slice(), is_made)
+    for number in 0..PARTS.len() {
+        row_passes(number, is_made(rt.alloc(), &PARTS[number]))?;
+    }
+    Ok(())
 }
 
 // 3 slots, entry 0, two blocks.
@@ -120,13 +123,16 @@ fn made_functions_are_written(rt: HostRuntime) -> Result<(), Fail> {
     }
 }
 
-#[test]
-fn moves_have_a_limit(rt: HostRuntime) -> Result<(), Fail> {
+// Whether so many moves are those of a block.
+fn are_moves(alloc: Global, count: usize) -> Result<bool, Fail> {
     let Some(x8) = Register::new(8) else {
         return Err(Fail::from("no register"));
     };
     let copy = Move::Between { to: x8, from: x8 };
-    let most = Moves::new(vec![in rt.alloc(); copy; 65_535]?).is_ok();
-    let more = Moves::new(vec![in rt.alloc(); copy; 65_536]?).is_ok();
-    passes(Ok(most && !more))
+    Ok(Moves::new(vec![in alloc; copy; count]?).is_ok())
+}
+
+#[test]
+fn moves_have_a_limit(rt: HostRuntime) -> Result<(), Fail> {
+    passes(Ok(are_moves(rt.alloc(), 65_535)? && !are_moves(rt.alloc(), 65_536)?))
 }

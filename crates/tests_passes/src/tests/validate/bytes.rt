@@ -1,14 +1,14 @@
 // Allocations that are wrong, or are only spelled differently: one with two operands exchanged, one with each of its bytes
 // changed, and each prefix of its bytes.
 
-use super::changes::{Change, changed};
+use super::changes::with_operation;
 use super::texts::{DIFFERENCE, EMPTY};
-use crate::tests::pairs::{pair_of, unit_of};
+use crate::tests::pairs::{pair_of, rtl_of, unit_of, verdict};
 use cc_colour::spill_all;
 use cc_ltl::{Ltl, Operation, read_ltl, write_ltl};
 use cc_rtl::RtlPair;
 use cc_types::TypedUnit;
-use cc_validate::validate;
+use cc_validate::{Refused, validate};
 use std::alloc::Global;
 use std::sync::Arc;
 use std::test::Fail;
@@ -40,25 +40,34 @@ fn exchanged(ltl: &Ltl) -> Option<(usize, Operation)> {
     None
 }
 
-// Whether the operation with its operands exchanged is refused with 24, and the pair that comes back is accepted with the
-// unchanged allocation.
-fn difference_is_guarded(alloc: Global) -> Result<bool, Fail> {
-    let unit = unit_of(alloc, DIFFERENCE.as_bytes())?;
-    let pair = pair_of(alloc, &unit, 0)?;
-    let ltl = spill_all(alloc, pair.code())?;
-    let Some((place, other)) = exchanged(&ltl) else {
-        return Ok(false);
+// The function with the operands of its first operation with two operands exchanged.
+fn exchanging(alloc: Global, ltl: &Ltl) -> Result<Ltl, Fail> {
+    let Some((place, other)) = exchanged(ltl) else {
+        return Err(Fail::from("no operation with two operands"));
     };
-    let Some(wrong) = changed(alloc, &ltl, place, Change::Operation(other))? else {
-        return Ok(false);
-    };
-    match validate(alloc, pair, wrong) {
-        Ok(_) => Ok(false),
-        Err(refused) => {
-            let number = refused.fault.number();
-            Ok(number == 24 && validate(alloc, refused.pair, ltl).is_ok())
-        }
+    match with_operation(alloc, ltl, place, other)? {
+        Some(ltl) => Ok(ltl),
+        None => Err(Fail::from("no function")),
     }
+}
+
+// Whether the first function is refused with 24, and the pair that comes back is accepted with the second.
+fn is_right_alone(alloc: Global, pair: RtlPair, wrong: Ltl, right: Ltl) -> bool {
+    match validate(alloc, pair, wrong) {
+        Ok(pair) => {
+            drop(pair);
+            drop(right);
+            false
+        }
+        Err(Refused { pair, fault }) => verdict(alloc, pair, right) == 0 && fault.number() == 24,
+    }
+}
+
+fn difference_is_guarded(alloc: Global) -> Result<bool, Fail> {
+    let pair = rtl_of(alloc, DIFFERENCE.as_bytes(), 0)?;
+    let ltl = spill_all(alloc, pair.code())?;
+    let wrong = exchanging(alloc, &ltl)?;
+    Ok(is_right_alone(alloc, pair, wrong, ltl))
 }
 
 #[test]
@@ -66,58 +75,96 @@ fn exchanged_operands_are_refused(rt: HostRuntime) -> Result<(), Fail> {
     passes(difference_is_guarded(rt.alloc()))
 }
 
-// The RTL for the next try, if the bytes spell no function, or one that is refused, or one that is accepted. `None` for any other
-// answer.
-fn answered(
-    alloc: Global,
-    unit: &Arc<TypedUnit>,
+/// A function whose allocation is tried in other bytes, and its RTL, if no try has used it up.
+#[derive(Drop)]
+struct Tried {
+    unit: Arc<TypedUnit>,
     function: usize,
-    pair: RtlPair,
-    bytes: &[u8],
-) -> Result<Option<RtlPair>, Fail> {
-    match read_ltl(alloc, bytes) {
-        Err(fault) => Ok(if fault.number() == 37 {
-            Some(pair)
-        } else {
-            None
-        }),
-        Ok(ltl) => match validate(alloc, pair, ltl) {
-            Ok(_) => Ok(Some(pair_of(alloc, unit, function)?)),
-            Err(refused) => Ok(if refused.fault.number() == 24 {
-                Some(refused.pair)
-            } else {
-                None
-            }),
-        },
+    pair: Option<RtlPair>,
+}
+
+impl Tried {
+    // The RTL for the next try.
+    fn taken(&mut self, alloc: Global) -> Result<RtlPair, Fail> {
+        match self.pair.take() {
+            Some(pair) => Ok(pair),
+            None => pair_of(alloc, &self.unit, self.function),
+        }
+    }
+
+    // Whether a function is accepted, or refused with 24.
+    fn is_judged(&mut self, alloc: Global, ltl: Ltl) -> Result<bool, Fail> {
+        let pair = self.taken(alloc)?;
+        match validate(alloc, pair, ltl) {
+            Ok(pair) => {
+                drop(pair);
+                Ok(true)
+            }
+            Err(Refused { pair, fault }) => {
+                self.pair = Some(pair);
+                Ok(fault.number() == 24)
+            }
+        }
+    }
+
+    // Whether bytes spell no function, or one that is accepted, or refused with 24.
+    fn is_answered(&mut self, alloc: Global, bytes: &[u8]) -> Result<bool, Fail> {
+        match read_ltl(alloc, bytes) {
+            Ok(ltl) => self.is_judged(alloc, ltl),
+            Err(fault) => Ok(fault.number() == 37),
+        }
+    }
+
+    // Whether each value of the byte at a place is answered.
+    fn is_place_answered(
+        &mut self,
+        alloc: Global,
+        bytes: &mut [u8],
+        place: usize,
+    ) -> Result<bool, Fail> {
+        let Some(usual) = bytes.get(place).copied() else {
+            return Ok(false);
+        };
+        let mut right = true;
+        for value in 0..=255u8 {
+            put(bytes, place, value);
+            right = right && self.is_answered(alloc, bytes)?;
+        }
+        put(bytes, place, usual);
+        Ok(right)
+    }
+
+    // Whether each value of one byte in every `one_in` bytes is answered, beginning with the byte `first`; of each byte if `one_in`
+    // is 0.
+    fn are_answered(
+        &mut self,
+        alloc: Global,
+        bytes: &mut [u8],
+        first: usize,
+        one_in: usize,
+    ) -> Result<bool, Fail> {
+        let mut right = true;
+        for place in 0..bytes.len() {
+            if one_in == 0 || place % one_in == first {
+                right = right && self.is_place_answered(alloc, bytes, place)?;
+            }
+        }
+        Ok(right)
     }
 }
 
-// Tries every value of the byte at a place. Returns as `answered` does.
-fn place_answered(
-    alloc: Global,
-    unit: &Arc<TypedUnit>,
-    function: usize,
-    pair: RtlPair,
-    bytes: &mut Vec<u8>,
-    place: usize,
-) -> Result<Option<RtlPair>, Fail> {
-    let Some(usual) = bytes.as_slice().get(place).copied() else {
-        return Ok(None);
-    };
-    let mut left = Some(pair);
-    for value in 0..=255u8 {
-        if let Some(byte) = bytes.as_mut_slice().get_mut(place) {
-            *byte = value;
-        }
-        left = match left {
-            Some(pair) => answered(alloc, unit, function, pair, bytes.as_slice())?,
-            None => None,
-        };
+fn put(bytes: &mut [u8], place: usize, value: u8) {
+    if let Some(byte) = bytes.get_mut(place) {
+        *byte = value;
     }
-    if let Some(byte) = bytes.as_mut_slice().get_mut(place) {
-        *byte = usual;
-    }
-    Ok(left)
+}
+
+// The bytes of a function's allocation.
+fn bytes_of(alloc: Global, text: &str, function: usize) -> Result<Vec<u8>, Fail> {
+    let pair = rtl_of(alloc, text.as_bytes(), function)?;
+    let spilled = spill_all(alloc, pair.code());
+    drop(pair);
+    Ok(write_ltl(alloc, &spilled?)?)
 }
 
 // Tries every value of one byte in every `one_in` bytes of a function's allocation, beginning with the byte `first`; of each byte
@@ -129,38 +176,36 @@ fn are_answered(
     first: usize,
     one_in: usize,
 ) -> Result<bool, Fail> {
-    let unit = unit_of(alloc, text.as_bytes())?;
-    let pair = pair_of(alloc, &unit, function)?;
-    let ltl = spill_all(alloc, pair.code())?;
-    let mut bytes = write_ltl(alloc, &ltl)?;
-    let mut left = Some(pair);
-    for place in 0..bytes.len() {
-        if one_in == 0 || place % one_in == first {
-            left = match left {
-                Some(pair) => place_answered(alloc, &unit, function, pair, &mut bytes, place)?,
-                None => None,
-            };
+    let mut bytes = bytes_of(alloc, text, function)?;
+    let mut tried = Tried {
+        unit: unit_of(alloc, text.as_bytes())?,
+        function,
+        pair: None,
+    };
+    let right = tried.are_answered(alloc, bytes.as_mut_slice(), first, one_in);
+    drop(tried);
+    right
+}
+
+// Whether bytes are refused with 37.
+fn is_no_function(alloc: Global, bytes: &[u8]) -> bool {
+    match read_ltl(alloc, bytes) {
+        Ok(ltl) => {
+            drop(ltl);
+            false
         }
+        Err(fault) => fault.number() == 37,
     }
-    Ok(left.is_some())
 }
 
 // Whether each proper prefix of the bytes of a function's allocation is refused with 37.
 fn are_prefixes_refused(alloc: Global, text: &str, function: usize) -> Result<bool, Fail> {
-    let unit = unit_of(alloc, text.as_bytes())?;
-    let ltl = spill_all(alloc, pair_of(alloc, &unit, function)?.code())?;
-    let bytes = write_ltl(alloc, &ltl)?;
+    let bytes = bytes_of(alloc, text, function)?;
+    let mut right = true;
     for end in 0..bytes.len() {
-        match read_ltl(alloc, &bytes.as_slice()[..end]) {
-            Err(fault) => {
-                if fault.number() != 37 {
-                    return Ok(false);
-                }
-            }
-            Ok(_) => return Ok(false),
-        }
+        right = right && is_no_function(alloc, &bytes.as_slice()[..end]);
     }
-    Ok(true)
+    Ok(right)
 }
 
 #[test]

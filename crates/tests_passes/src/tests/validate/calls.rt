@@ -2,10 +2,9 @@
 // x18 to x27 (s0 to s11); the words of all other registers are lost.
 
 use super::changes::as_moves;
-use crate::tests::pairs::{pair_of, unit_of};
+use crate::tests::pairs::{rtl_of, verdict};
 use cc_colour::spill_all;
 use cc_ltl::{Block, Ltl, Move, Moves, Register};
-use cc_validate::validate;
 use std::alloc::Global;
 use std::test::Fail;
 use tests_texts::verdict::passes;
@@ -34,15 +33,26 @@ fn all_moved(alloc: Global, moves: &[Move], place: Register) -> Result<Moves, Fa
     as_moves(made)
 }
 
+fn moved_block(alloc: Global, block: &Block, place: Register) -> Result<Block, Fail> {
+    let before = all_moved(alloc, block.before.moves(), place)?;
+    match all_moved(alloc, block.after.moves(), place) {
+        Ok(after) => Ok(Block {
+            label: block.label,
+            before,
+            operation: block.operation,
+            after,
+        }),
+        Err(fail) => {
+            drop(before);
+            Err(fail)
+        }
+    }
+}
+
 fn in_register(alloc: Global, spilled: &Ltl, place: Register) -> Result<Ltl, Fail> {
     let mut blocks = Vec::new(alloc);
     for block in spilled.blocks() {
-        blocks.push(Block {
-            label: block.label,
-            before: all_moved(alloc, block.before.moves(), place)?,
-            operation: block.operation,
-            after: all_moved(alloc, block.after.moves(), place)?,
-        })?;
+        blocks.push(moved_block(alloc, block, place)?)?;
     }
     match Ltl::new(spilled.slots(), spilled.entry(), blocks) {
         Ok(ltl) => Ok(ltl),
@@ -56,14 +66,11 @@ fn in_register(alloc: Global, spilled: &Ltl, place: Register) -> Result<Ltl, Fai
 // Whether the validator gives this answer (a fault's number, or 0) for function 1 if its parameter is in this register all the
 // time.
 fn is_answered(alloc: Global, text: &str, place: Register, wanted: u32) -> Result<bool, Fail> {
-    let unit = unit_of(alloc, text.as_bytes())?;
-    let pair = pair_of(alloc, &unit, 1)?;
+    let pair = rtl_of(alloc, text.as_bytes(), 1)?;
     let spilled = spill_all(alloc, pair.code())?;
     let ltl = in_register(alloc, &spilled, place)?;
-    match validate(alloc, pair, ltl) {
-        Ok(_) => Ok(wanted == 0),
-        Err(refused) => Ok(refused.fault.number() == wanted),
-    }
+    drop(spilled);
+    Ok(verdict(alloc, pair, ltl) == wanted)
 }
 
 // Whether a value in the register with this number is accepted across a call exactly if calls keep the register, and is always

@@ -221,30 +221,38 @@ fn changed_plain(operation: Operation, blocks: u32, number: u32) -> Operation {
     }
 }
 
-/// A list of moves with one change. The move at `place` gets the change with this number, or it is dropped or made twice.
-/// `None` if there is no change with that number.
+/// What takes a move's place in a change of this number: a move, and how many copies of it. The move is dropped, made twice, or
+/// changed. `None` if there is no change with that number.
+pub fn in_its_place(each: &Move, slots: u16, number: u32) -> Option<(usize, Move)> {
+    match number {
+        0 => Some((0, *each)),
+        1 => Some((2, *each)),
+        _ => match changed_move(each, slots, number - 2) {
+            Some(other) => Some((1, other)),
+            None => None,
+        },
+    }
+}
+
+/// A list of moves with so many copies of a move in place of the one at `place`.
 pub fn changed_moves(
     alloc: Global,
     moves: &[Move],
-    slots: u16,
     place: usize,
-    number: u32,
-) -> Result<Option<Vec<Move>>, AllocError> {
+    copies: usize,
+    other: &Move,
+) -> Result<Vec<Move>, AllocError> {
     let mut changed = Vec::new(alloc);
-    for (at, each) in moves.iter().enumerate() {
+    for at in 0..moves.len() {
         if at != place {
-            changed.push(*each)?;
-        } else if number == 1 {
-            changed.push(*each)?;
-            changed.push(*each)?;
-        } else if number > 1 {
-            let Some(other) = changed_move(each, slots, number - 2) else {
-                return Ok(None);
-            };
-            changed.push(other)?;
+            changed.push(moves[at])?;
+        } else {
+            for _ in 0..copies {
+                changed.push(*other)?;
+            }
         }
     }
-    Ok(Some(changed))
+    Ok(changed)
 }
 
 /// These moves as the moves of a block, if there are not too many.
@@ -258,48 +266,63 @@ pub fn as_moves(moves: Vec<Move>) -> Result<Moves, Fail> {
     }
 }
 
-/// What is changed in a block: its operation, or its moves before or after it.
-#[derive(Drop)]
-pub enum Change {
-    Operation(Operation),
-    Before(Vec<Move>),
-    After(Vec<Move>),
+fn copied(alloc: Global, moves: &[Move]) -> Result<Moves, Fail> {
+    as_moves(Vec::from_slice(alloc, moves)?)
 }
 
-fn changed_block(alloc: Global, block: &Block, change: Change) -> Result<Block, Fail> {
-    let mut operation = block.operation;
-    let mut before = Vec::from_slice(alloc, block.before.moves())?;
-    let mut after = Vec::from_slice(alloc, block.after.moves())?;
-    match change {
-        Change::Operation(other) => operation = other,
-        Change::Before(moves) => before = moves,
-        Change::After(moves) => after = moves,
+// The block with this label and this operation, with these moves before it and after it.
+fn block_of(
+    alloc: Global,
+    label: u32,
+    operation: Operation,
+    before: &[Move],
+    after: &[Move],
+) -> Result<Block, Fail> {
+    let before = copied(alloc, before)?;
+    match copied(alloc, after) {
+        Ok(after) => Ok(Block {
+            label,
+            before,
+            operation,
+            after,
+        }),
+        Err(fail) => {
+            drop(before);
+            Err(fail)
+        }
     }
-    Ok(Block {
-        label: block.label,
-        before: as_moves(before)?,
-        operation,
-        after: as_moves(after)?,
-    })
 }
 
-/// The function with the block at `place` changed. `None` if the result is not a function.
-pub fn changed(
+// A block of a function; if it is the one to change, it has another operation and other moves before it and after it.
+fn other_block(
+    alloc: Global,
+    block: &Block,
+    is_there: bool,
+    operation: Operation,
+    before: &[Move],
+    after: &[Move],
+) -> Result<Block, Fail> {
+    if is_there {
+        block_of(alloc, block.label, operation, before, after)
+    } else {
+        let (first, last) = (block.before.moves(), block.after.moves());
+        block_of(alloc, block.label, block.operation, first, last)
+    }
+}
+
+// The function with another operation in the block at `place`, and other moves before it and after it. `None` if the result is not
+// a function.
+fn changed(
     alloc: Global,
     ltl: &Ltl,
     place: usize,
-    change: Change,
+    operation: Operation,
+    before: &[Move],
+    after: &[Move],
 ) -> Result<Option<Ltl>, Fail> {
     let mut blocks = Vec::new(alloc);
-    let mut change = Some(change);
     for (at, block) in ltl.blocks().iter().enumerate() {
-        let as_before = Change::Operation(block.operation);
-        let made = if at == place {
-            changed_block(alloc, block, change.take().unwrap_or(as_before))?
-        } else {
-            changed_block(alloc, block, as_before)?
-        };
-        blocks.push(made)?;
+        blocks.push(other_block(alloc, block, at == place, operation, before, after)?)?;
     }
     match Ltl::new(ltl.slots(), ltl.entry(), blocks) {
         Ok(ltl) => Ok(Some(ltl)),
@@ -307,5 +330,56 @@ pub fn changed(
             drop(blocks);
             Ok(None)
         }
+    }
+}
+
+/// The function with another operation in the block at `place`. `None` if there is no such function.
+pub fn with_operation(
+    alloc: Global,
+    ltl: &Ltl,
+    place: usize,
+    other: Operation,
+) -> Result<Option<Ltl>, Fail> {
+    match ltl.blocks().get(place) {
+        Some(block) => changed(
+            alloc,
+            ltl,
+            place,
+            other,
+            block.before.moves(),
+            block.after.moves(),
+        ),
+        None => Ok(None),
+    }
+}
+
+/// The function with other moves after the operation of the block at `place`, or before it. `None` if there is no such function.
+pub fn with_moves(
+    alloc: Global,
+    ltl: &Ltl,
+    place: usize,
+    moves: &[Move],
+    behind: bool,
+) -> Result<Option<Ltl>, Fail> {
+    match ltl.blocks().get(place) {
+        Some(block) if behind => {
+            changed(
+                alloc,
+                ltl,
+                place,
+                block.operation,
+                block.before.moves(),
+                moves,
+            )
+        }
+        Some(block) => changed(
+            alloc,
+            ltl,
+            place,
+            block.operation,
+            moves,
+            block.after.moves(),
+        ),
+        None => Ok(None),
     }
 }

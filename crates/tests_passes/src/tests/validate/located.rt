@@ -10,7 +10,7 @@ use std::alloc::{AllocError, Global};
 /// The words of registers and slots, and the list of words for what is unknown.
 #[derive(Drop)]
 struct Places {
-    registers: Vec<u32>,
+    registers: [u32; 32],
     slots: Vec<u32>,
     seed: u32,
     unknown: u32,
@@ -19,23 +19,30 @@ struct Places {
 impl Places {
     fn new(alloc: Global, slots: u16, seed: u32, arguments: &[u32]) -> Result<Places, AllocError> {
         let mut places = Places {
-            registers: Vec::new(alloc),
-            slots: Vec::new(alloc),
+            registers: [0; 32],
+            slots: vec![in alloc; 0; slots as usize]?,
             seed,
             unknown: 0,
         };
-        for _ in 0..32u32 {
-            let word = places.next_unknown();
-            places.registers.push(word)?;
-        }
-        for _ in 0..slots {
-            let word = places.next_unknown();
-            places.slots.push(word)?;
-        }
+        places.fill();
         for (number, word) in arguments.iter().enumerate() {
             places.put_number(number.saturating_add(10), *word);
         }
         Ok(places)
+    }
+
+    // Puts the next words of the list everywhere.
+    fn fill(&mut self) {
+        for register in 0..32usize {
+            let word = self.next_unknown();
+            self.put_number(register, word);
+        }
+        for slot in 0..self.slots.len() {
+            let word = self.next_unknown();
+            if let Some(place) = self.slots.as_mut_slice().get_mut(slot) {
+                *place = word;
+            }
+        }
     }
 
     // The next word of the list: zeros only, ones only, or other words.
@@ -49,14 +56,14 @@ impl Places {
     }
 
     fn number(&self, register: usize) -> u32 {
-        match self.registers.as_slice().get(register) {
+        match self.registers.get(register) {
             Some(word) => *word,
             None => 0,
         }
     }
 
     fn put_number(&mut self, register: usize, word: u32) {
-        if let Some(place) = self.registers.as_mut_slice().get_mut(register) {
+        if let Some(place) = self.registers.get_mut(register) {
             *place = word;
         }
     }

@@ -1,6 +1,8 @@
 // Each single change of an allocation is refused or harmless.
 
-use super::changes::{Change, changed, changed_moves, changed_operation, operation_changes};
+use super::changes::{
+    changed_moves, changed_operation, in_its_place, operation_changes, with_moves, with_operation,
+};
 use super::graph::run_graph;
 use super::located::run_located;
 use super::texts::{FUNCTIONS, Function};
@@ -14,7 +16,7 @@ use cc_validate::validate;
 use std::alloc::{AllocError, Global};
 use std::sync::Arc;
 use std::test::Fail;
-use tests_texts::verdict::each_passes;
+use tests_texts::verdict::row_passes;
 
 // Whether two runs on the same input, of RTL and of LTL with these unknown words, stop in the same way and leave the same
 // world. If the RTL goes wrong, the LTL may do anything.
@@ -34,13 +36,15 @@ fn runs_alike(
     let count = (pair.code().parameters() as usize).min(2);
     let arguments = &arguments.as_slice()[..count];
     let mut here = World::new(alloc, words, input)?;
-    let mut there = World::new(alloc, words, input)?;
     let stop = run_graph(alloc, program, function, arguments, &mut here, 20)?;
     if stop == Stop::Wrong {
         return Ok(true);
     }
-    let other = run_located(alloc, program, ltl, arguments, seed, &mut there, 20)?;
-    Ok(stop == other && here.is_same(&there))
+    let mut there = World::new(alloc, words, input)?;
+    let other = run_located(alloc, program, ltl, arguments, seed, &mut there, 20);
+    let same = here.is_same(&there);
+    drop(there);
+    Ok(other? == stop && same)
 }
 
 // Whether `runs_alike` holds on ten inputs, each with three lists of unknown words.
@@ -109,7 +113,7 @@ impl Subject {
         let blocks = ltl.blocks().len().min(4096) as u32;
         for number in 0..operation_changes(operation) {
             let other = changed_operation(operation, blocks, number);
-            let made = changed(alloc, ltl, place, Change::Operation(other))?;
+            let made = with_operation(alloc, ltl, place, other)?;
             if !self.is_right(alloc, made)? {
                 return Ok(false);
             }
@@ -127,15 +131,15 @@ impl Subject {
         at: usize,
         behind: bool,
     ) -> Result<bool, Fail> {
+        let Some(each) = moves.get(at) else {
+            return Ok(false);
+        };
         for number in 0..6u32 {
-            if let Some(other) = changed_moves(alloc, moves, ltl.slots(), at, number)? {
-                let change = if behind {
-                    Change::After(other)
-                } else {
-                    Change::Before(other)
-                };
-                let made = changed(alloc, ltl, place, change)?;
-                if !self.is_right(alloc, made)? {
+            if let Some((copies, other)) = in_its_place(each, ltl.slots(), number) {
+                let other = changed_moves(alloc, moves, at, copies, &other)?;
+                let made = with_moves(alloc, ltl, place, other.as_slice(), behind);
+                drop(other);
+                if !self.is_right(alloc, made?)? {
                     return Ok(false);
                 }
             }
@@ -166,12 +170,10 @@ impl Subject {
     }
 
     // Tries each change of each block; for a long function only of every sixteenth block, since a test has sixty seconds.
-    fn is_guarded(&mut self, alloc: Global) -> Result<bool, Fail> {
-        let pair = pair_of(alloc, &self.unit, self.function as usize)?;
-        let ltl = spill_all(alloc, pair.code())?;
+    fn is_guarded(&mut self, alloc: Global, ltl: &Ltl) -> Result<bool, Fail> {
         let every = if ltl.blocks().len() > 60 { 16 } else { 1 };
         for (place, block) in ltl.blocks().iter().enumerate() {
-            if place % every == 0 && !self.block_is_guarded(alloc, &ltl, place, block)? {
+            if place % every == 0 && !self.block_is_guarded(alloc, ltl, place, block)? {
                 return Ok(false);
             }
         }
@@ -194,32 +196,42 @@ fn subject_of(alloc: Global, text: &str, function: u32, words: u32) -> Result<Su
     })
 }
 
-// Whether the unchanged allocation is accepted.
-fn spilled_is_right(alloc: Global, subject: &mut Subject) -> Result<bool, Fail> {
+// The allocation that spills all.
+fn spilled_of(alloc: Global, subject: &Subject) -> Result<Ltl, Fail> {
     let pair = pair_of(alloc, &subject.unit, subject.function as usize)?;
-    let ltl = spill_all(alloc, pair.code())?;
-    let right = subject.is_right(alloc, Some(ltl))?;
-    Ok(right && subject.counts.refused == 0)
+    let spilled = spill_all(alloc, pair.code());
+    drop(pair);
+    Ok(spilled?)
 }
 
+// Whether the unchanged allocation is accepted.
 fn is_right_at_first(alloc: Global, row: &Function) -> Result<bool, Fail> {
     let mut held = subject_of(alloc, row.0, row.1, row.2)?;
-    spilled_is_right(alloc, &mut held)
+    let ltl = spilled_of(alloc, &held)?;
+    let right = held.is_right(alloc, Some(ltl))?;
+    Ok(right && held.counts.refused == 0)
 }
 
 #[test]
 fn allocations_that_spill_all_are_right(rt: HostRuntime) -> Result<(), Fail> {
-    each_passes(rt.alloc(), FUNCTIONS.as_slice(), is_right_at_first)
+    for number in 0..FUNCTIONS.len() {
+        row_passes(number, is_right_at_first(rt.alloc(), &FUNCTIONS[number]))?;
+    }
+    Ok(())
 }
 
 // Whether each change of a function is refused or harmless, and at least one is refused.
 fn is_guarded(alloc: Global, row: &Function) -> Result<bool, Fail> {
     let mut held = subject_of(alloc, row.0, row.1, row.2)?;
-    let right = held.is_guarded(alloc)?;
+    let ltl = spilled_of(alloc, &held)?;
+    let right = held.is_guarded(alloc, &ltl)?;
     Ok(right && held.counts.refused > 0)
 }
 
 #[test]
 fn every_change_is_refused_or_harmless(rt: HostRuntime) -> Result<(), Fail> {
-    each_passes(rt.alloc(), FUNCTIONS.as_slice(), is_guarded)
+    for number in 0..FUNCTIONS.len() {
+        row_passes(number, is_guarded(rt.alloc(), &FUNCTIONS[number]))?;
+    }
+    Ok(())
 }
