@@ -1,17 +1,18 @@
 -- A checked program compared with its source, for each way in which the source stops, and also after more steps, because a
 -- run that went wrong stays as it was.
-use Rattle.std.proofs.Common.{◌≡◌, ℕ, ◌+◌, Bool, true, false, if◌then◌else◌, List, refl, sym, ap, ◌∙◌, subst}
+use Rattle.std.proofs.Common.{◌≡◌, ℕ, ◌+◌, Bool, true, false, if◌then◌else◌, refl, sym, ap, ◌∙◌, subst}
 use Rattle.cc_simulation.specs.Behavior as runs
 use Rattle.cc_simulation.specs.Behavior.{IsPrefixOf, EndsAlike, Shows, Follows}
-use Rattle.cc_c_semantics.specs.Outcome.{Stop, Going, Ended, Wrong, Outcome}
-use Rattle.cc_c_semantics.specs.Meaning.{source_behavior}
+use Rattle.cc_words.specs.Observed.{written_words}
+use Rattle.cc_c_semantics.specs.Outcome.{Stop, Going, Ended, Wrong, Outcome, in_words}
+use Rattle.cc_c_semantics.specs.Meaning.{observed_behavior, source_behavior}
 use Rattle.cc_c_semantics.specs.Function.{GoesOn}
 use Rattle.cc_c_semantics.specs.Checked.{stays, checked_stop, shown, IsRight, checked_behavior, ProgramsAreChecked}
-use Rattle.cc_c_semantics.specs.Numbered.{stop_without_cause, without_cause, CheckedFollows}
+use Rattle.cc_c_semantics.specs.Numbered.{stop_without_cause, without_cause, CheckedFollows, CheckedFollowsInWords}
 use Rattle.cc_c_semantics.specs.declared.cause.Cause.{Cause}
 use Rattle.cc_c_semantics.specs.declared.cause.Cause.TheVariants.{Depth}
 use Rattle.cc_c_semantics.specs.declared.mode.Mode.TheVariants.{Checked}
-use Rattle.cc_c_semantics.proofs.Exact.{runs_go_on}
+use Rattle.cc_c_semantics.proofs.Exact.{observed_runs_go_on}
 
 same_stop : (s : Stop ℕ) → IsRight s → checked_stop s ≡ s
 same_stop Going ok = refl
@@ -36,15 +37,15 @@ too_deep (Wrong c) cause e = ap (λ (x : Cause). Wrong x) (too_deep_by c cause (
 
 pub programs_are_checked : ProgramsAreChecked
 programs_are_checked source input = record {
-  right = λ n ok. ap (λ (s : Stop ℕ). record { stop = s; output = (source_behavior source input n).output }) (same_stop (source_behavior source input n).stop ok);
+  right = λ n ok. ap (λ (s : Stop ℕ). record { stop = s; output = (observed_behavior source input n).output }) (same_stop (observed_behavior source input n).stop ok);
   still = λ n more cause e waits.
-      let a = source_behavior source input n in
-      let z = source_behavior source input (n + more) in
-      let same : z ≡ a = same_wrong a.stop cause a z e (runs_go_on source input n more) in
+      let a = observed_behavior source input n in
+      let z = observed_behavior source input (n + more) in
+      let same : z ≡ a = same_wrong a.stop cause a z e (observed_runs_go_on source input n more) in
       ap (λ (o : Outcome ℕ). shown Checked o) same
       ∙ ap (λ (s : Stop ℕ). record { stop = checked_stop s; output = a.output }) e
       ∙ ap (λ b. record { stop = if b then Going else Wrong cause; output = a.output }) waits;
-  wrong = λ n cause e. too_deep (source_behavior source input n).stop cause e;
+  wrong = λ n cause e. too_deep (observed_behavior source input n).stop cause e;
 }
 
 -- ---- what follows a checked program
@@ -69,5 +70,10 @@ follows_right {B} {C} {R} a b z same f =
 
 pub checked_follows : CheckedFollows
 checked_follows source input z f =
-    follows_right (λ n. without_cause (source_behavior source input n)) (λ n. without_cause (checked_behavior source input n)) z
-    (λ n ok. ap (λ (s : runs.Stop ℕ). record { stop = s; output = (source_behavior source input n).output }) (same_shown (source_behavior source input n).stop ok)) f
+    follows_right (λ n. without_cause (observed_behavior source input n)) (λ n. without_cause (checked_behavior source input n)) z
+    (λ n ok. ap (λ (s : runs.Stop ℕ). record { stop = s; output = (observed_behavior source input n).output }) (same_shown (observed_behavior source input n).stop ok)) f
+
+pub checked_follows_in_words : CheckedFollowsInWords
+checked_follows_in_words source input z f =
+    follows_right (λ n. without_cause (source_behavior source input n)) (λ n. without_cause (in_words (checked_behavior source input n))) z
+    (λ n ok. ap (λ (s : runs.Stop ℕ). record { stop = s; output = written_words (observed_behavior source input n).output }) (same_shown (observed_behavior source input n).stop ok)) f

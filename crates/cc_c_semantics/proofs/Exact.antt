@@ -1,8 +1,12 @@
 -- A call that answers needs no more steps than it spends, and with more steps a run continues.
-use Rattle.std.proofs.Common.{◌≡◌, ℕ, suc, ◌+◌, ◌-◌, ◌≤◌, List, [], slice_get, codes, refl, ap, ◌∙◌, arith}
+use Rattle.std.proofs.Common.{◌≡◌, ℕ, suc, ◌+◌, ◌-◌, ◌≤◌, List, [], slice_get, codes, refl, sym, ap, ◌∙◌, arith}
+use Rattle.cc_words.specs.Observed.{written_words}
+use Rattle.cc_words.proofs.Observed.{words_append}
+use Rattle.cc_c_semantics.specs.Outcome as outcome
+use Rattle.cc_c_semantics.specs.Outcome.{Outcome, Stop, in_words}
 use Rattle.cc_ast.specs.Tree.{External}
-use Rattle.cc_c_semantics.specs.Meaning.{Run, Gives, Going, Wrong, functions, calls, run_optional, initial_globals, outcome_of}
-use Rattle.cc_c_semantics.specs.Function.{Shared, Answer, Answers, Unfinished, Failed, effect_of, state_within, name_of_function, call_function, body_of_function, SpendsExactly, GoesOn, RunsGoOn}
+use Rattle.cc_c_semantics.specs.Meaning.{Run, Gives, Going, Wrong, functions, calls, run_optional, initial_globals, outcome_of, observed_behavior}
+use Rattle.cc_c_semantics.specs.Function.{Shared, Answer, Answers, Unfinished, Failed, effect_of, state_within, name_of_function, call_function, body_of_function, SpendsExactly, GoesOn, ObservedRunsGoOn, RunsGoOn}
 use Rattle.cc_c_semantics.proofs.Lasting.{written, Lasts, Under}
 use Rattle.cc_c_semantics.proofs.Steps.{calls_steady, run_optional_steady}
 
@@ -45,8 +49,17 @@ goes_on n more (Going output) go h =
     let b = h more (suc (n + more)) (omega arith) in (b.0, b.1 ∙ output_of_outcome (go (suc (n + more)) (n + more)))
 goes_on n more (Wrong cause output) go h = ap outcome_of (h more (suc (n + more)) (omega arith))
 
-pub runs_go_on : RunsGoOn
-runs_go_on source input n more =
+pub observed_runs_go_on : ObservedRunsGoOn
+observed_runs_go_on source input n more =
     goes_on n more (calls (suc n) (functions source.externals) 0 (codes "main") [] (record { locals = []; globals = initial_globals source.externals; input = input; output = []; steps = n }))
     (λ m j. calls m (functions source.externals) 0 (codes "main") [] (record { locals = []; globals = initial_globals source.externals; input = input; output = []; steps = j }))
     ((calls_steady (functions source.externals) 0 (codes "main") []).lasts (suc n) (record { locals = []; globals = initial_globals source.externals; input = input; output = []; steps = n }) (omega arith))
+
+goes_on_in_words : (s : Stop ℕ) (a z : Outcome ℕ) → GoesOn s a z → GoesOn s (in_words a) (in_words z)
+goes_on_in_words outcome.Going a z h = (written_words h.0, sym (words_append a.output h.0) ∙ ap written_words h.1)
+goes_on_in_words (outcome.Ended w) a z h = ap (λ (o : Outcome ℕ). in_words o) h
+goes_on_in_words (outcome.Wrong cause) a z h = ap (λ (o : Outcome ℕ). in_words o) h
+
+pub runs_go_on : RunsGoOn
+runs_go_on source input n more =
+    goes_on_in_words (observed_behavior source input n).stop (observed_behavior source input n) (observed_behavior source input (n + more)) (observed_runs_go_on source input n more)

@@ -13,6 +13,7 @@ use Rattle.cc_types.specs.Scope as scope
 use Rattle.cc_types.specs.Scope.{Binding, Visible, in_scope, opened, declared, scope_behind, scope_behind_beginning}
 use Rattle.cc_types.specs.Types.{value_type, target_type}
 use Rattle.cc_c_semantics.specs.Meaning.{Local, Global, State, Run, Gives, Wrong, Flow, Falls, Breaks, Continues, Returns, then_do, choose, Calls, local_word, global_words, with_local_word, with_element, variable_word, stored, read_element, write_element, given, unless_decided, evaluate, evaluate_all, evaluate_or, Destination, ToVariable, ToElement, destination, old_value, write, new_value, perform, perform_optional, with_local, declare, start, left_scope, in_block, return, execute, execute_all, behind_flow, Function, bound, result_of, run_body, run_optional, read_input, calls, function_named, most_open, spend, turns}
+use Rattle.cc_words.specs.Observed.{read_mark}
 use Rattle.cc_simulation.specs.Behavior.{IsPrefixOf}
 use Rattle.cc_c_semantics.specs.declared.cause.Cause.TheVariants.{Index, Depth}
 use Rattle.cc_c_semantics.proofs.Lasting.{at, written, begins_refl, begins_spend, Lasts, lasts_gives, lasts_by, lasts_spend, Steady, steady_gives, steady_then, steady_choose, steady_unless, steady_flow, Under, under, steady_begin, steady_turns}
@@ -259,12 +260,12 @@ abbrev UpTo : ℕ → ℕ → Type 0
 UpTo k n = k < suc n
 
 input_grows : (input : List ℕ) (s : State) → IsPrefixOf s.output (written (read_input input s))
-input_grows [] s = begins_refl s.output
-input_grows (w ∷ rest) s = begins_refl s.output
+input_grows [] s = (read_mark ∷ [], refl)
+input_grows (w ∷ rest) s = (read_mark ∷ [], refl)
 
 input_lasts : (input : List ℕ) (s : State) → Lasts {A = ℕ} {B = ℕ} UpTo s.steps (read_input input s) (λ m j. read_input input (at s j))
-input_lasts [] s = lasts_gives UpTo 0 s
-input_lasts (w ∷ rest) s = lasts_gives UpTo w (record s { input = rest })
+input_lasts [] s = lasts_gives UpTo 0 (record s { output = s.output ++ read_mark ∷ [] })
+input_lasts (w ∷ rest) s = lasts_gives UpTo w (record s { input = rest; output = s.output ++ read_mark ∷ [] })
 
 begun_grows : (writes reads allowed : Bool) (body : ℕ → State → Run ℕ) (ws : List ℕ) → (allowed ≡ true → Steady Under body) → (n : ℕ) (s : State)
     → IsPrefixOf s.output (written (begun writes reads allowed body ws n s))

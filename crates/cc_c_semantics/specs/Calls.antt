@@ -10,7 +10,7 @@ use Rattle.cc_layout.specs.declared.layout.Callee.TheVariants.{WriteWord, ReadWo
 use Rattle.cc_simulation.specs.Behavior.{IsPrefixOf}
 use Rattle.cc_c_semantics.specs.Outcome as outcome
 use Rattle.cc_c_semantics.specs.Outcome.{Outcome}
-use Rattle.cc_c_semantics.specs.Meaning.{Local, Global, State, Run, Gives, Going, Wrong, Function, functions, read_input, calls, initial_globals, source_behavior}
+use Rattle.cc_c_semantics.specs.Meaning.{Local, Global, State, Run, Gives, Going, Wrong, Function, functions, read_input, calls, initial_globals, observed_behavior}
 use Rattle.cc_c_semantics.specs.Function.{Shared, Answer, Effect, Answers, Unfinished, Failed, name_of_function, call_function, body_of_function, SpendsExactly}
 use Rattle.cc_c_semantics.specs.Resolved.{arities, IsCalled}
 
@@ -140,4 +140,4 @@ TypedUnitsHaveMain = (unit : List External) → IsTyped unit → HasMain unit
 -- a program's run is the call of main, while no call is open
 abbrev pub ProgramsCallMain : Type 0
 ProgramsCallMain = (source : Source) → HasMain source.externals → (input : List ℕ) (n : ℕ)
-    → source_behavior source input n ≡ outcome_of_effect (call_function source.externals n 0 (main_of source.externals) [] (first_shared source.externals input))
+    → observed_behavior source input n ≡ outcome_of_effect (call_function source.externals n 0 (main_of source.externals) [] (first_shared source.externals input))

@@ -6,7 +6,7 @@ use Rattle.cc_types.specs.Typed.{IsTyped}
 use Rattle.cc_simulation.specs.Behavior.{IsPrefixOf}
 use Rattle.cc_c_semantics.specs.Outcome as outcome
 use Rattle.cc_c_semantics.specs.Outcome.{Stop, Outcome}
-use Rattle.cc_c_semantics.specs.Meaning.{Global, State, Run, Gives, Going, Wrong, Function, functions, calls, run_optional, most_open, source_behavior}
+use Rattle.cc_c_semantics.specs.Meaning.{Global, State, Run, Gives, Going, Wrong, Function, functions, calls, run_optional, most_open, observed_behavior, source_behavior}
 use Rattle.cc_c_semantics.specs.declared.cause.Cause.{Cause}
 use Rattle.cc_c_semantics.specs.declared.cause.Cause.TheVariants.{Depth}
 
@@ -81,3 +81,8 @@ GoesOn (outcome.Wrong cause) a z = z ≡ a
 abbrev pub RunsGoOn : Type 0
 RunsGoOn = (source : Source) (input : List ℕ) (n more : ℕ) →
     GoesOn (source_behavior source input n).stop (source_behavior source input n) (source_behavior source input (n + more))
+
+-- also with the reads among the words
+abbrev pub ObservedRunsGoOn : Type 0
+ObservedRunsGoOn = (source : Source) (input : List ℕ) (n more : ℕ) →
+    GoesOn (observed_behavior source input n).stop (observed_behavior source input n) (observed_behavior source input (n + more))

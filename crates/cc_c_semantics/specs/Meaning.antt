@@ -6,6 +6,7 @@
 -- greater than the number of steps left, makes each recursion end; it has no other effect.
 use Rattle.std.specs.Prelude.{ℕ, zero, suc, ◌+◌, ◌-◌, true, false, List, [], ◌∷◌, ◌++◌, length, drop, map, nat_lt, if◌then◌else◌, Option, Some, None, is_some, unwrap_or, slice_get, slice_set, codes}
 use Rattle.cc_words.specs.Widths.{kept}
+use Rattle.cc_words.specs.Observed.{read_mark}
 use Rattle.cc_simulation.specs.operators.Width.{Width}
 use Rattle.cc_ast.specs.scalar.Scalar.{Scalar}
 use Rattle.cc_ast.specs.scalar.Scalar.TheVariants.{Int}
@@ -20,7 +21,7 @@ use Rattle.cc_types.specs.Scope.{Binding, Visible, in_scope, opened, declared, s
 use Rattle.cc_types.specs.Types.{value_type, target_type, object_width, initial_words}
 use Rattle.cc_types.specs.Limits.{objects, object_name}
 use Rattle.cc_c_semantics.specs.Outcome as outcome
-use Rattle.cc_c_semantics.specs.Outcome.{Outcome}
+use Rattle.cc_c_semantics.specs.Outcome.{Outcome, in_words}
 use Rattle.cc_c_semantics.specs.declared.cause.Cause.{Cause}
 use Rattle.cc_c_semantics.specs.declared.cause.Cause.TheVariants.{Division, Shift, Index, Depth}
 
@@ -37,7 +38,8 @@ pub record Global : Type 0 where
   pub width : Width
   pub words : List ℕ
 
--- the state of a run: the running function's locals, newest first; the globals; the input left; the output so far; the steps left
+-- the state of a run: the running function's locals, newest first; the globals; the input left; the output so far, with a mark for each
+-- read; the steps left
 pub record State : Type 0 where
   pub locals : List Local
   pub globals : List Global
@@ -348,10 +350,10 @@ abbrev pub run_optional : Option Function → ℕ → Calls → List ℕ → Sta
 run_optional None n call ws s = Gives 0 s
 run_optional (Some f) n call ws s = run_body f n call ws s
 
--- reads the next word of the input, or 0 if none is left
+-- reads the next word of the input, or 0 if none is left, and marks the read in the output
 abbrev pub read_input : List ℕ → State → Run ℕ
-read_input [] s = Gives 0 s
-read_input (w ∷ rest) s = Gives w (record s { input = rest })
+read_input [] s = Gives 0 (record s { output = s.output ++ read_mark ∷ [] })
+read_input (w ∷ rest) s = Gives w (record s { input = rest; output = s.output ++ read_mark ∷ [] })
 
 -- how many calls may be open, including that of `main` but not those of the builtins
 abbrev pub most_open : ℕ
@@ -389,8 +391,13 @@ outcome_of (Gives w s) = record { stop = outcome.Ended w; output = s.output }
 outcome_of (Going output) = record { stop = outcome.Going; output = output }
 outcome_of (Wrong cause output) = record { stop = outcome.Wrong cause; output = output }
 
--- what a program does on an input within n steps: `main` is called while no call is open (5.1.2.2.1, 5.1.2.3)
-abbrev pub source_behavior : Source → List ℕ → ℕ → Outcome ℕ
-source_behavior source input n =
+-- what a program does on an input within n steps, with the places of its reads among what it writes: `main` is called while no call is
+-- open (5.1.2.2.1, 5.1.2.3)
+abbrev pub observed_behavior : Source → List ℕ → ℕ → Outcome ℕ
+observed_behavior source input n =
     outcome_of (calls (suc n) (functions source.externals) 0 (codes "main") []
     (record { locals = []; globals = initial_globals source.externals; input = input; output = []; steps = n }))
+
+-- the same with the words alone that it writes
+abbrev pub source_behavior : Source → List ℕ → ℕ → Outcome ℕ
+source_behavior source input n = in_words (observed_behavior source input n)

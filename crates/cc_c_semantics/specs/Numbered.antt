@@ -7,7 +7,7 @@ use Rattle.cc_simulation.specs.Behavior as runs
 use Rattle.cc_simulation.specs.World.{Object, Size, size_of, World, Effect, Gives, Unfinished, Failed}
 use Rattle.cc_simulation.specs.Meaning.{Meaning}
 use Rattle.cc_c_semantics.specs.Outcome as outcome
-use Rattle.cc_c_semantics.specs.Meaning.{Global, functions, initial_globals, source_behavior}
+use Rattle.cc_c_semantics.specs.Meaning.{Global, functions, initial_globals, observed_behavior, source_behavior}
 use Rattle.cc_c_semantics.specs.Checked.{stays, behavior, checked_behavior}
 use Rattle.cc_c_semantics.specs.declared.cause.Cause.{Cause}
 use Rattle.cc_c_semantics.specs.declared.mode.Mode.{Mode}
@@ -111,4 +111,9 @@ ProgramsAreNumbered = (mode : Mode) (source : Source) → HasMain source.externa
 -- whatever follows a checked program follows its source
 abbrev pub CheckedFollows : Type 0
 CheckedFollows = (source : Source) (input : List ℕ) (z : ℕ → runs.Outcome ℕ)
-    → runs.Follows (λ n. without_cause (checked_behavior source input n)) z → runs.Follows (λ n. without_cause (source_behavior source input n)) z
+    → runs.Follows (λ n. without_cause (checked_behavior source input n)) z → runs.Follows (λ n. without_cause (observed_behavior source input n)) z
+
+-- the same if only the words are seen, and not where a run reads
+abbrev pub CheckedFollowsInWords : Type 0
+CheckedFollowsInWords = (source : Source) (input : List ℕ) (z : ℕ → runs.Outcome ℕ)
+    → runs.Follows (λ n. without_cause (outcome.in_words (checked_behavior source input n))) z → runs.Follows (λ n. without_cause (source_behavior source input n)) z

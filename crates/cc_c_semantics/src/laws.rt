@@ -2,8 +2,8 @@
 
 ghost use Rattle.cc_c_semantics.specs.Calls.{BodiesGoOn, BodiesKeepObjects, CallsAreEffects, CallsGoOn, CallsKeepObjects, FunctionsAreNumbered, ObjectsAreNumbered, ObjectsAreSized, ProgramsCallMain, TypedUnitsHaveMain};
 ghost use Rattle.cc_c_semantics.specs.Checked.{ProgramsAreChecked};
-ghost use Rattle.cc_c_semantics.specs.Function.{TypedUnitsHaveMeaning, RunsGoOn};
-ghost use Rattle.cc_c_semantics.specs.Numbered.{CallsAreNumbered, CheckedFollows, ProgramsAreNumbered, TypedUnitsHaveMeanings};
+ghost use Rattle.cc_c_semantics.specs.Function.{TypedUnitsHaveMeaning, ObservedRunsGoOn, RunsGoOn};
+ghost use Rattle.cc_c_semantics.specs.Numbered.{CallsAreNumbered, CheckedFollows, CheckedFollowsInWords, ProgramsAreNumbered, TypedUnitsHaveMeanings};
 ghost use Rattle.cc_c_semantics.specs.Resolved.{FunctionsAreResolved};
 
 /// Shows that each function of a typed unit has a meaning. A call with no step left is unfinished. A call made while 1,024 calls
@@ -16,6 +16,11 @@ pub fn functions_have_meaning()
 /// the shorter run's output is the beginning of the longer run's output.
 pub fn runs_go_on()
     ensures { RunsGoOn }
+{}
+
+/// Shows that with more steps a run continues also in the order of its reads and writes.
+pub fn observed_runs_go_on()
+    ensures { ObservedRunsGoOn }
 {}
 
 /// Shows that a call in the tree does what its name refers to. A builtin writes or reads; a function of the unit has the effect
@@ -60,10 +65,11 @@ pub fn functions_are_resolved()
 
 /// Shows that a checked program shows what its source shows until the source goes wrong. If the source goes wrong for a cause
 /// other than depth, the checked program runs for ever with the output so far. The checked program goes wrong only if calls in
-/// the source are nested too deep. Whatever follows the checked program follows the source.
+/// the source are nested too deep. Whatever follows the checked program follows the source, also if only the words are seen.
 pub fn programs_are_checked()
     ensures checked { ProgramsAreChecked }
     ensures follows { CheckedFollows }
+    ensures words { CheckedFollowsInWords }
 {}
 
 /// Shows that in each mode a typed unit has a meaning by number, and that its calls, its bodies and its run are the same by

@@ -14,7 +14,7 @@ mod mode;
 pub use cause::Cause;
 pub use laws::{
     calls_are_effects, calls_go_on, calls_keep_objects, functions_are_resolved,
-    functions_have_meaning, names_have_numbers, programs_are_checked, programs_call_main,
-    runs_go_on, units_have_meanings,
+    functions_have_meaning, names_have_numbers, observed_runs_go_on, programs_are_checked,
+    programs_call_main, runs_go_on, units_have_meanings,
 };
 pub use mode::Mode;

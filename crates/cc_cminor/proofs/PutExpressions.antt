@@ -19,6 +19,7 @@ use Rattle.cc_c_semantics.specs.Function as by_name
 use Rattle.cc_c_semantics.specs.Calls.{sizes, laid_sizes, shared_of, after_call, KeepsObjects}
 use Rattle.cc_c_semantics.specs.Checked.{stays}
 use Rattle.cc_c_semantics.specs.Numbered.{world_of, numbered}
+use Rattle.cc_words.specs.Observed.{read_mark}
 use Rattle.cc_simulation.specs.World as world
 use Rattle.cc_simulation.specs.World.{World, Question, Answer, Effect, first_or_zero, rest_of}
 use Rattle.cc_simulation.specs.Run as layer
@@ -229,13 +230,20 @@ module _ (effect : Calling) (g : Layout) where
     read_comes : (input : List ℕ) (k : ℕ) (κ : Continuation) (ns : List (List ℕ)) (l : ℕ → ℕ) (s : State) → s.input ≡ input → length ns ≤ k → Fits g ns s l
         → Comes effect (Puts k κ ns l) (config (Read (Some k)) κ l (world_at s)) s.steps (read_input input s)
     read_comes [] k κ ns l s e le h =
-        comes_moved effect (Puts k κ ns l) (config (Read (Some k)) κ l (world_at s)) (config Skip κ (put l k 0) (world_at s)) s.steps (Gives 0 s)
-        (ap (λ i. Goes (config Skip κ (put l k (first_or_zero i)) (record (world_at s) { input = rest_of i }))) e ∙ ap (λ i. Goes (config Skip κ (put l k 0) (record (world_at s) { input = i }))) (sym e))
-        (comes_here effect (Puts k κ ns l) (config Skip κ (put l k 0) (world_at s)) 0 s (record { variables = put l k 0; at = refl; is = put_here l k 0; fits = fits_put g ns s l k 0 le h; same = λ i lt. put_below l k 0 i lt }))
+        let t : State = record s { output = s.output ++ read_mark ∷ [] } in
+        comes_moved effect (Puts k κ ns l) (config (Read (Some k)) κ l (world_at s)) (config Skip κ (put l k 0) (world_at t)) s.steps (Gives 0 t)
+        (ap (λ i. Goes (config Skip κ (put l k (first_or_zero i)) (record (world_at t) { input = rest_of i }))) e ∙ ap (λ i. Goes (config Skip κ (put l k 0) (record (world_at t) { input = i }))) (sym e))
+        (comes_here effect (Puts k κ ns l) (config Skip κ (put l k 0) (world_at t)) 0 t (record {
+          variables = put l k 0;
+          at = refl;
+          is = put_here l k 0;
+          fits = (let p = fits_put g ns s l k 0 le h in record { names = p.names; holds = p.holds; sized = p.sized });
+          same = λ i lt. put_below l k 0 i lt;
+        }))
     read_comes (w ∷ rest) k κ ns l s e le h =
-        let t : State = record s { input = rest } in
+        let t : State = record s { input = rest; output = s.output ++ read_mark ∷ [] } in
         comes_moved effect (Puts k κ ns l) (config (Read (Some k)) κ l (world_at s)) (config Skip κ (put l k w) (world_at t)) s.steps (Gives w t)
-        (ap (λ i. Goes (config Skip κ (put l k (first_or_zero i)) (record (world_at s) { input = rest_of i }))) e)
+        (ap (λ i. Goes (config Skip κ (put l k (first_or_zero i)) (record (world_at t) { input = rest_of i }))) e)
         (comes_here effect (Puts k κ ns l) (config Skip κ (put l k w) (world_at t)) w t (record {
           variables = put l k w;
           at = refl;

@@ -3,6 +3,7 @@
 use Rattle.std.proofs.Common.{◌≡◌, ℕ, List, [], ◌∷◌, Option, Some, None, option_map, refl, subst}
 use Rattle.cc_ast.specs.Tree.{External}
 use Rattle.cc_c_semantics.specs.declared.mode.Mode.{Mode}
+use Rattle.cc_words.specs.Observed.{read_mark}
 use Rattle.cc_simulation.specs.Behavior.{IsPrefixOf}
 use Rattle.cc_simulation.specs.World.{World, Answer, element}
 use Rattle.cc_simulation.specs.Run.{Move, Goes, Calls, Fails, tried}
@@ -47,7 +48,7 @@ moves_grow (Store width o i e) κ l h =
     tried_case (Grows h) (value i l h) _ (begins_refl h.output) (λ j. tried_case (Grows h) (value e l h) _ (begins_refl h.output) (λ w.
     stored_case (Grows h) h (element h width o j) _ _ (begins_refl h.output) (λ old. begins_refl h.output)))
 moves_grow (Call to f es) κ l h = tried_case (Grows h) (values es l h) _ (begins_refl h.output) (λ ws. begins_refl h.output)
-moves_grow (Read to) κ l h = begins_refl h.output
+moves_grow (Read to) κ l h = (read_mark ∷ [], refl)
 moves_grow (Write e) κ l h = tried_case (Grows h) (value e l h) _ (begins_refl h.output) (λ w. (w ∷ [], refl))
 moves_grow (Sequence a b) κ l h = begins_refl h.output
 moves_grow (If e a b) κ l h = tried_case (Grows h) (value e l h) _ (begins_refl h.output) (λ w. begins_refl h.output)

@@ -13,7 +13,7 @@ use Rattle.cc_types.specs.Scope as scope
 use Rattle.cc_types.specs.Scope.{Binding, Visible, in_scope, opened, declared, scope_behind, scope_behind_beginning}
 use Rattle.cc_types.specs.Types.{value_type, target_type}
 use Rattle.cc_c_semantics.specs.declared.cause.Cause.TheVariants.{Index, Depth}
-use Rattle.cc_c_semantics.specs.Meaning.{Global, State, Run, Gives, Going, Wrong, Flow, Falls, Breaks, Continues, Returns, then_do, choose, Calls, global_words, with_local_word, with_element, local_word, variable_word, stored, read_element, write_element, given, unless_decided, evaluate, evaluate_all, evaluate_or, Destination, ToVariable, ToElement, destination, old_value, write, new_value, perform, perform_optional, spend_of, spend, behind_flow, behind_body, begin_body, turns, with_local, declare, start, left_scope, in_block, execute, execute_all, Function, functions, function_named, bound, result_of, run_optional, read_input, most_open, calls, outcome_of, initial_globals, source_behavior}
+use Rattle.cc_c_semantics.specs.Meaning.{Global, State, Run, Gives, Going, Wrong, Flow, Falls, Breaks, Continues, Returns, then_do, choose, Calls, global_words, with_local_word, with_element, local_word, variable_word, stored, read_element, write_element, given, unless_decided, evaluate, evaluate_all, evaluate_or, Destination, ToVariable, ToElement, destination, old_value, write, new_value, perform, perform_optional, spend_of, spend, behind_flow, behind_body, begin_body, turns, with_local, declare, start, left_scope, in_block, execute, execute_all, Function, functions, function_named, bound, result_of, run_optional, read_input, most_open, calls, outcome_of, initial_globals, observed_behavior}
 use Rattle.cc_earlier.specs.Texts.{ArePlain, EarlierGlobal, earlier_with_element, earlier_global, AreOfWords, EarlierMeaningStays}
 use Rattle.cc_earlier.specs.Meaning as earlier
 
@@ -284,7 +284,7 @@ module _ (stays : EarlierMeaningStays) where
   same_outcome (Wrong cause output) q h = ap earlier.outcome_of (sym h)
 
   -- a program without byte arrays does what it did
-  pub programs_stay : (source : Source) → ArePlain source.externals → (input : List ℕ) (n : ℕ) → source_behavior source input n ≡ earlier.source_behavior source input n
+  pub programs_stay : (source : Source) → ArePlain source.externals → (input : List ℕ) (n : ℕ) → observed_behavior source input n ≡ earlier.observed_behavior source input n
   programs_stay source plain input n =
       let q = stays.begins source.externals plain in
       let s : State = record { locals = []; globals = initial_globals source.externals; input = input; output = []; steps = n } in

@@ -1,7 +1,7 @@
 -- What a program did before there were arrays of `unsigned char`: each clause of `cc_c_semantics/specs/Meaning` that mentions the state of a
--- run, as it was then, over objects that have only words (`EarlierGlobal` of `Texts`). Clauses that mention no state are not repeated: none of
--- them has a different text now, except those on arrays of `unsigned char` themselves. The numbers in parentheses are clauses of ISO/IEC
--- 9899:1999.
+-- run, as it was then but for the marks of reads, over objects that have only words (`EarlierGlobal` of `Texts`). Clauses that mention no
+-- state are not repeated: none of them has a different text now, except those on arrays of `unsigned char` themselves. The numbers in
+-- parentheses are clauses of ISO/IEC 9899:1999.
 use Rattle.std.specs.Prelude.{ℕ, zero, suc, ◌+◌, ◌-◌, true, false, List, [], ◌∷◌, ◌++◌, length, drop, nat_lt, if◌then◌else◌, Option, Some, None, is_some, unwrap_or, slice_get, codes}
 use Rattle.cc_tokens.specs.declared.scalar.Scalar.{Scalar}
 use Rattle.cc_tokens.specs.declared.scalar.Scalar.TheVariants.{Int}
@@ -13,8 +13,9 @@ use Rattle.cc_types.specs.Operators.{working_type, unary_word, binary_word, deci
 use Rattle.cc_types.specs.Scope as scope
 use Rattle.cc_types.specs.Scope.{Binding, Visible, in_scope, opened, declared, scope_behind, scope_behind_beginning}
 use Rattle.cc_types.specs.Types.{value_type, target_type}
+use Rattle.cc_words.specs.Observed.{read_mark}
 use Rattle.cc_c_semantics.specs.Outcome as outcome
-use Rattle.cc_c_semantics.specs.Outcome.{Outcome}
+use Rattle.cc_c_semantics.specs.Outcome.{Outcome, in_words}
 use Rattle.cc_c_semantics.specs.Meaning.{Local, Flow, Falls, Breaks, Continues, Returns, local_word, with_local_word, cause_of, Destination, ToVariable, ToElement, Function, functions, function_named, bound, result_of, most_open}
 use Rattle.cc_c_semantics.specs.declared.cause.Cause.{Cause}
 use Rattle.cc_c_semantics.specs.declared.cause.Cause.TheVariants.{Index, Depth}
@@ -259,8 +260,8 @@ run_optional (Some f) n call ws s = run_body f n call ws s
 
 -- the next word of the input, or 0 if none is left
 abbrev pub read_input : List ℕ → State → Run ℕ
-read_input [] s = Gives 0 s
-read_input (w ∷ rest) s = Gives w (record s { input = rest })
+read_input [] s = Gives 0 (record s { output = s.output ++ read_mark ∷ [] })
+read_input (w ∷ rest) s = Gives w (record s { input = rest; output = s.output ++ read_mark ∷ [] })
 
 -- a call while this many calls are open, if fewer than n steps are left: the builtins spend no step; a call of a defined function spends
 -- one, and then goes wrong if too many calls would be open
@@ -287,7 +288,11 @@ outcome_of (Going output) = record { stop = outcome.Going; output = output }
 outcome_of (Wrong cause output) = record { stop = outcome.Wrong cause; output = output }
 
 -- what a program does on an input within n steps: `main` is called, while no call is open (5.1.2.2.1, 5.1.2.3)
-abbrev pub source_behavior : Source → List ℕ → ℕ → Outcome ℕ
-source_behavior source input n =
+abbrev pub observed_behavior : Source → List ℕ → ℕ → Outcome ℕ
+observed_behavior source input n =
     outcome_of (calls (suc n) (functions source.externals) 0 (codes "main") []
     (record { locals = []; globals = earlier_initial_globals source.externals; input = input; output = []; steps = n }))
+
+-- the same in words, as it was seen then: without the marks of reads
+abbrev pub source_behavior : Source → List ℕ → ℕ → Outcome ℕ
+source_behavior source input n = in_words (observed_behavior source input n)

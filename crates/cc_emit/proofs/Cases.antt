@@ -5,6 +5,7 @@ use Rattle.cc_words.specs.Words.{add, lt_u}
 use Rattle.cc_words.specs.Operators.{apply_unary, apply_binary}
 use Rattle.cc_words.specs.declared.operators.Unary as unary
 use Rattle.cc_words.specs.declared.operators.Binary as binary
+use Rattle.cc_words.specs.Observed.{read_mark}
 use Rattle.cc_simulation.specs.Behavior.{AreWords}
 use Rattle.cc_simulation.specs.World.{first_or_zero, World, element, next_word, after_read, after_write, with_element}
 use Rattle.cc_simulation.specs.Run.{Fails, Goes, tried}
@@ -655,10 +656,10 @@ read_case x w a rest l h s (e, st, inside) =
     let wu = number_within x l h s 2 (omega arith) inside in
     let v = next_word h in
     let k = put (Register 10) v (put (Register 17) 2 l) in
-    let t : State = record u { pc = u.pc + 4; registers = with_register u.registers 10 v; input = machine.rest_of u.input } in
+    let t : State = record u { pc = u.pc + 4; registers = with_register u.registers 10 v; input = machine.rest_of u.input; output = u.output ++ (read_mark ∷ []) } in
     let same : machine.first_or_zero u.input ≡ v = same_first u.input ∙ ap first_or_zero inside.shares.input in
     let lt : v < 2 ^ 32 = subst (λ n. n < 2 ^ 32) (sym (same_first u.input) ∙ same) (first_word u.input inside.sound.input) in
-    let step : machine_step x.code u ≡ Continues t = step_at x.code u (x.place + 4 * a + 4) Ecall (ap (λ n. n + 4) e) items.1.0 ∙ ap (λ n. Continues (record u { pc = u.pc + 4; registers = with_register u.registers 10 n; input = machine.rest_of u.input })) same in
+    let step : machine_step x.code u ≡ Continues t = step_at x.code u (x.place + 4 * a + 4) Ecall (ap (λ n. n + 4) e) items.1.0 ∙ ap (λ n. Continues (record u { pc = u.pc + 4; registers = with_register u.registers 10 n; input = machine.rest_of u.input; output = u.output ++ (read_mark ∷ []) })) same in
     let set_v = within_set x (put (Register 17) 2 l) h u (u.pc + 4) 10 v (not_kept x.frame 10 (omega arith) (omega arith)) lt wu in
     record {
       prefix = 2 ∷ [];

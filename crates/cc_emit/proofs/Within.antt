@@ -5,6 +5,7 @@ use Rattle.cc_rv32.specs.Machine as machine
 use Rattle.cc_words.specs.declared.operators.Width.{Width}
 use Rattle.cc_words.specs.Widths.{kept}
 use Rattle.cc_rv32.specs.Machine.{State, stack_from, stored, with_register, with_word}
+use Rattle.cc_words.specs.Observed.{read_mark}
 use Rattle.cc_simulation.specs.Behavior.{AreWords}
 use Rattle.cc_simulation.specs.World.{rest_of, World, with_element, after_read, after_write}
 use Rattle.cc_ltl.specs.declared.location.Location.TheVariants.{Register, Slot}
@@ -179,13 +180,13 @@ within_store x l h s p width g i v old is b w =
     }
 
 -- reading a word of the input leaves the machine within the body
-pub within_read : (x : Site) {held : Scratch} (l : Locations) (h : World) (s : State) → Within x held l h s → Within x held l (after_read h) (record s { input = machine.rest_of s.input })
+pub within_read : (x : Site) {held : Scratch} (l : Locations) (h : World) (s : State) → Within x held l h s → Within x held l (after_read h) (record s { input = machine.rest_of s.input; output = s.output ++ (read_mark ∷ []) })
 within_read x l h s w = record {
   sound = record { zero = w.sound.zero; registers = w.sound.registers; memory = w.sound.memory; input = subst AreWords (sym (same_rest s.input)) (rest_words s.input w.sound.input) };
   holds = w.holds;
   same = w.same;
   slots = w.slots;
-  shares = record { sizes = w.shares.sizes; globals = w.shares.globals; input = same_rest s.input ∙ ap rest_of w.shares.input; output = w.shares.output };
+  shares = record { sizes = w.shares.sizes; globals = w.shares.globals; input = same_rest s.input ∙ ap rest_of w.shares.input; output = ap (λ o. o ++ (read_mark ∷ [])) w.shares.output };
   stack = w.stack;
   pointer = w.pointer;
   saved = w.saved;

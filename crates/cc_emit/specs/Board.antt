@@ -7,7 +7,7 @@ use Rattle.cc_rv32.specs.declared.instr.Instr.TheVariants.{Load, Store}
 use Rattle.cc_rv32.specs.declared.outcome.MachineOutcome.{MachineOutcome}
 use Rattle.cc_rv32.specs.declared.outcome.MachineOutcome.TheVariants.{Going, Exited, Trapped}
 use Rattle.cc_rv32.specs.declared.image.Image.{Image}
-use Rattle.cc_rv32.specs.Machine.{State, Turn, Continues, Traps, Run, Behavior, globals_from, globals_to, stack_to, puts, loaded, stored, load_bytes, store_bytes, execute, instruction_at, turned, start, seen}
+use Rattle.cc_rv32.specs.Machine.{State, Turn, Continues, Traps, Run, Behavior, globals_from, globals_to, stack_to, puts, loaded, stored, load_bytes, store_bytes, execute, instruction_at, turned, start, observed}
 
 -- whether data of the board lies at an address: in the globals, or in the stack from `floor` on
 abbrev pub is_data_above : (floor a : ℕ) → Bool
@@ -36,6 +36,6 @@ unfoldable pub run_above : (floor : ℕ) (code : List ℕ) (n : ℕ) → Run →
 run_above floor code zero r = r
 run_above floor code (suc n) r = run_above floor code n (run_on_above floor code r.outcome r.state)
 
--- the behavior of an image within n instructions, on a board with memory for this many bytes of stack
+-- what an image does within n instructions, its reads among what it writes, on a board with memory for this many bytes of stack
 abbrev pub backed_behavior : (bytes : ℕ) → Image → (input : List ℕ) (n : ℕ) → Behavior
-backed_behavior bytes image input n = seen (run_above (stack_to - bytes) image.code n (start image input))
+backed_behavior bytes image input n = observed (run_above (stack_to - bytes) image.code n (start image input))

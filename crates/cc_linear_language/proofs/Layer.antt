@@ -60,7 +60,7 @@ does_grows arity code (Store width object index from ∷ items) at world words d
     let y = tried_goes (stored world width object (at (Register index)) (at (Register from))) _ d e in
     keeps world _ d (stored_output world object (at (Register index)) (at (Register from)) (element world width object (at (Register index))) _ y.0 (λ old. refl) y.1) y.2
 does_grows arity code (Call function ∷ items) at world words d e = absurd cc
-does_grows arity code (Read ∷ items) at world words d e = keeps world _ d refl e
+does_grows arity code (Read ∷ items) at world words d e = subst (GrowsTo world) (same_goes _ d e) (_, refl)
 does_grows arity code (Write ∷ items) at world words d e = subst (GrowsTo world) (same_goes _ d e) (_, refl)
 does_grows arity code (Return ∷ items) at world words d e = absurd cc
 

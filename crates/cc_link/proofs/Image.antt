@@ -4,7 +4,8 @@ use Rattle.std.specs.Prelude.{◌==◌, ◌++◌, if◌then◌else◌}
 use Rattle.std.proofs.Math.Nat.{mul-suc}
 use Rattle.cc_rv32.specs.declared.image.Image.{Image}
 use Rattle.cc_rv32.specs.declared.outcome.MachineOutcome.TheVariants.{Going as Runs}
-use Rattle.cc_rv32.specs.Machine.{State, Turn, Continues, Exits, Traps, turned, seen, jumps, with_register, first_or_zero, rest_of, start, start_state, start_memory, instruction_at, stack_from, stack_to}
+use Rattle.cc_words.specs.Observed.{read_mark}
+use Rattle.cc_rv32.specs.Machine.{State, Turn, Continues, Exits, Traps, turned, observed, jumps, with_register, first_or_zero, rest_of, start, start_state, start_memory, instruction_at, stack_from, stack_to}
 use Rattle.cc_simulation.specs.Behavior.{Going, Ended, Outcome, AreWords, Follows}
 use Rattle.cc_simulation.specs.World.{Object, size_of as object_size, World, Answer, Effect, Gives, Unfinished, Failed, IsWorld}
 use Rattle.cc_simulation.specs.Meaning.{Meaning}
@@ -93,7 +94,7 @@ module _ (meaning : Meaning) (few : total meaning.objects ≤ 65536) (main : ℕ
       ∙ ap (λ n. if n == 0 then Continues entered else Traps) p.aligned
 
   -- after main has returned, two more instructions end the run with main's word
-  exit : (t : State) (a : Answer) → ComesBack layout entered a t → shown (seen (run_above stack.floor code 2 (going t))) ≡ record { stop = Ended a.value; output = a.world.output }
+  exit : (t : State) (a : Answer) → ComesBack layout entered a t → shown (observed (run_above stack.floor code 2 (going t))) ≡ record { stop = Ended a.value; output = a.world.output }
   unfolding run_above
   exit t a r =
       let at : t.pc ≡ 0x10004 = r.at in
@@ -103,21 +104,21 @@ module _ (meaning : Meaning) (few : total meaning.objects ≤ 65536) (main : ℕ
       let n17 : (t.registers 0 + 93) % 2 ^ 32 ≡ 93 = ap (λ n. (n + 93) % 2 ^ 32) r.sound.zero in
       let two : executed_above stack.floor (instruction_at code u.pc) u ≡ Exits a.value =
       ap (λ p. executed_above stack.floor (instruction_at code p) u) next ∙ ap (λ o. executed_above stack.floor o u) stands.1.1.0
-      ∙ ap (λ n. if n == 1 then Continues (record u { pc = u.pc + 4; output = u.output ++ (u.registers 10 ∷ []) }) else if n == 2 then Continues (record u { pc = u.pc + 4; registers = with_register u.registers 10 (first_or_zero u.input); input = rest_of u.input }) else if n == 93 then Exits (u.registers 10) else Traps) n17
+      ∙ ap (λ n. if n == 1 then Continues (record u { pc = u.pc + 4; output = u.output ++ (u.registers 10 ∷ []) }) else if n == 2 then Continues (record u { pc = u.pc + 4; registers = with_register u.registers 10 (first_or_zero u.input); input = rest_of u.input; output = u.output ++ (read_mark ∷ []) }) else if n == 93 then Exits (u.registers 10) else Traps) n17
       ∙ ap Exits r.value in
-      ap (λ (x : Turn). shown (seen (run_above stack.floor code 1 (turned t x)))) one ∙ ap (λ (x : Turn). shown (seen (turned u x))) two ∙ ap (λ o. record { stop = Ended a.value; output = o }) r.shares.output
+      ap (λ (x : Turn). shown (observed (run_above stack.floor code 1 (turned t x)))) one ∙ ap (λ (x : Turn). shown (observed (turned u x))) two ∙ ap (λ o. record { stop = Ended a.value; output = o }) r.shares.output
 
-  still : (m : ℕ) (t : State) (o : List ℕ) → Path board m entered t → t.output ≡ o → shown (seen (run_above stack.floor code (suc m) (going first))) ≡ record { stop = Going; output = o }
+  still : (m : ℕ) (t : State) (o : List ℕ) → Path board m entered t → t.output ≡ o → shown (observed (run_above stack.floor code (suc m) (going first))) ≡ record { stop = Going; output = o }
   unfolding run_above
   still m t o p e =
       let z : suc m + 0 ≡ suc m = omega arith in
-      ap (λ k. shown (seen (run_above stack.floor code k (going first)))) (sym z) ∙ ap (λ r. shown (seen r)) (run_path stack code (suc m) 0 first t (entered, to_main, p)) ∙ ap (λ x. record { stop = Going; output = x }) e
+      ap (λ k. shown (observed (run_above stack.floor code k (going first)))) (sym z) ∙ ap (λ r. shown (observed r)) (run_path stack code (suc m) 0 first t (entered, to_main, p)) ∙ ap (λ x. record { stop = Going; output = x }) e
 
   abbrev machine : ℕ → Outcome ℕ
-  machine m = shown (seen (run_above stack.floor code m (going first)))
+  machine m = shown (observed (run_above stack.floor code m (going first)))
 
   matched : (c n : ℕ) (e : Effect) → Meets layout board c c n entered e → Matched machine c n (outcome_by_number e) (outcome_by_number e).stop
-  matched c n (Gives a left) (m, t, p, r, b) = (suc m + 2, ap (λ x. shown (seen x)) (run_path stack code (suc m) 2 first t (entered, to_main, p)) ∙ exit t a r)
+  matched c n (Gives a left) (m, t, p, r, b) = (suc m + 2, ap (λ x. shown (observed x)) (run_path stack code (suc m) 2 first t (entered, to_main, p)) ∙ exit t a r)
   matched c n (Unfinished o) (m, t, p, r, b) = (suc m, still m t o p r, one_more c m n b)
   matched c n (Failed o) x = tt
 
@@ -132,10 +133,10 @@ pub linked_backed : (meaning : Meaning) (few : total meaning.objects ≤ 65536) 
     → ((f : ℕ) → f < meaning.functions → IsEnough stack.need f (frames f) (get_or pieces f [])) → stack.floor + stack.need main 0 ≤ stack_to
     → (initial : List Object) → map object_size initial ≡ meaning.objects → ((g : ℕ) → AreKept (object_in initial g).width (object_in initial g).words)
     → (image : Image) → image.code ≡ encoded (linked_code main pieces) → image.globals ≡ globals_image initial → AreWords image.globals
-    → (input : List ℕ) → AreWords input → Follows (called_behavior meaning main initial input) (λ m. shown (seen (run_above stack.floor image.code m (start image input))))
+    → (input : List ℕ) → AreWords input → Follows (called_behavior meaning main initial input) (λ m. shown (observed (run_above stack.floor image.code m (start image input))))
 linked_backed meaning few main pieces is_function bare count fits stack frames all enough backed initial sized kept image is_code is_globals words input input_words =
-    subst (λ c. Follows (called_behavior meaning main initial input) (λ m. shown (seen (run_above stack.floor c m (record { state = start_state image.globals input; outcome = Runs }))))) (sym is_code)
-    (subst (λ g. Follows (called_behavior meaning main initial input) (λ m. shown (seen (run_above stack.floor (encoded (linked_code main pieces)) m (record { state = start_state g input; outcome = Runs }))))) (sym is_globals)
+    subst (λ c. Follows (called_behavior meaning main initial input) (λ m. shown (observed (run_above stack.floor c m (record { state = start_state image.globals input; outcome = Runs }))))) (sym is_code)
+    (subst (λ g. Follows (called_behavior meaning main initial input) (λ m. shown (observed (run_above stack.floor (encoded (linked_code main pieces)) m (record { state = start_state g input; outcome = Runs }))))) (sym is_globals)
     (agrees meaning few main pieces is_function bare count fits stack frames all enough backed initial sized kept (subst AreWords is_globals words) input input_words))
 
 -- ---- the whole machine: for each call that the limit allows, the largest frame
@@ -160,5 +161,5 @@ pub linked_agrees : (meaning : Meaning) (few : total meaning.objects ≤ 65536) 
     → (initial : List Object) → map object_size initial ≡ meaning.objects → ((g : ℕ) → AreKept (object_in initial g).width (object_in initial g).words)
     → (image : Image) → image.code ≡ encoded (linked_code main pieces) → image.globals ≡ globals_image initial → AreWords image.globals → (input : List ℕ) → AreWords input → Follows (called_behavior meaning main initial input) (image_behavior image input)
 linked_agrees meaning few main pieces is_function bare count fits frames all initial sized kept image is_code is_globals words input input_words =
-    subst (Follows (called_behavior meaning main initial input)) (λ i m. shown (seen (whole image.code m (start image input) i)))
+    subst (Follows (called_behavior meaning main initial input)) (λ i m. shown (observed (whole image.code m (start image input) i)))
     (linked_backed meaning few main pieces is_function bare count fits whole_stack frames all (λ f lt. most_enough f (frames f) (get_or pieces f []) (all f lt).small) (omega arith) initial sized kept image is_code is_globals words input input_words)

@@ -12,6 +12,8 @@ pub mod CallsMeet
 pub mod Placing
 -- the image follows the source
 pub mod Image
+-- what agrees also agrees in words
+pub mod InWords
 -- the stack that an image takes is enough
 pub mod Enough
 -- the objects of a unit, and their elements

@@ -5,7 +5,8 @@ use Rattle.cc_rv32.specs.declared.instr.Instr.{Instr}
 use Rattle.cc_rv32.specs.declared.instr.Instr.TheVariants.{Op, OpImm, Shift, Load, Store, Branch, Lui, Auipc, Jal, Jalr, Ecall}
 use Rattle.cc_rv32.specs.declared.outcome.MachineOutcome.{MachineOutcome}
 use Rattle.cc_rv32.specs.declared.outcome.MachineOutcome.TheVariants.{Going as Runs, Exited, Trapped}
-use Rattle.cc_rv32.specs.Machine.{State, Turn, Continues, Exits, Traps, Run, turned, run_on, machine_run, seen, execute, executed, instruction_at, stack_from, branches, jumps, load_bytes, store_bytes, loaded, stored, is_taken, with_register, first_or_zero, rest_of}
+use Rattle.cc_words.specs.Observed.{read_mark}
+use Rattle.cc_rv32.specs.Machine.{State, Turn, Continues, Exits, Traps, Run, turned, run_on, machine_run, observed, execute, executed, instruction_at, stack_from, branches, jumps, load_bytes, store_bytes, loaded, stored, is_taken, with_register, first_or_zero, rest_of}
 use Rattle.cc_words.specs.Words.{add}
 use Rattle.cc_simulation.specs.Behavior.{IsPrefixOf}
 use Rattle.cc_emit.specs.Board.{execute_above, executed_above, is_accessible_above, run_on_above, run_above}
@@ -72,10 +73,11 @@ execute_grows floor (Jal d i) s = jumps_grows d (add s.pc i) s
 execute_grows floor (Jalr d s1 i) s = let a = add (s.registers s1) i in jumps_grows d (a - a % 2) s
 execute_grows floor Ecall s =
     let x = Continues (record s { pc = s.pc + 4; output = s.output ++ (s.registers 10 ∷ []) }) in
-    let y = Continues (record s { pc = s.pc + 4; registers = with_register s.registers 10 (first_or_zero s.input); input = rest_of s.input }) in
+    let y = Continues (record s { pc = s.pc + 4; registers = with_register s.registers 10 (first_or_zero s.input); input = rest_of s.input; output = s.output ++ (read_mark ∷ []) }) in
     let z = if s.registers 17 == 93 then Exits (s.registers 10) else Traps in
     let w : IsPrefixOf s.output (s.output ++ (s.registers 10 ∷ [])) = (s.registers 10 ∷ [], refl) in
-    either s.output (s.registers 17 == 1) x (if s.registers 17 == 2 then y else z) w (either s.output (s.registers 17 == 2) y z (begins_refl s.output) (exits s.output (s.registers 17 == 93) (s.registers 10)))
+    let r : IsPrefixOf s.output (s.output ++ (read_mark ∷ [])) = (read_mark ∷ [], refl) in
+    either s.output (s.registers 17 == 1) x (if s.registers 17 == 2 then y else z) w (either s.output (s.registers 17 == 2) y z r (exits s.output (s.registers 17 == 93) (s.registers 10)))
 
 executed_grows : (floor : ℕ) (i : Option Instr) (s : State) → TurnGrows s.output (executed_above floor i s)
 executed_grows floor None s = tt
@@ -110,15 +112,15 @@ unfolding run_above
 run_add floor code zero n r = let e : 0 + n ≡ n = omega arith in ap (λ k. run_above floor code k r) e
 run_add floor code (suc m) n r = let e : suc m + n ≡ suc (m + n) = omega arith in ap (λ k. run_above floor code k r) e ∙ run_add floor code m n (run_on_above floor code r.outcome r.state)
 
-on_from : (floor : ℕ) (code : List ℕ) (k : ℕ) (o : MachineOutcome) (s : State) → GoesOn (shown (seen (record { state = s; outcome = o }))) (shown (seen (run_above floor code k (record { state = s; outcome = o }))))
+on_from : (floor : ℕ) (code : List ℕ) (k : ℕ) (o : MachineOutcome) (s : State) → GoesOn (shown (observed (record { state = s; outcome = o }))) (shown (observed (run_above floor code k (record { state = s; outcome = o }))))
 on_from floor code k Runs s = record { output = grows floor code k Runs s; stays = tt }
-on_from floor code k (Exited w) s = record { output = grows floor code k (Exited w) s; stays = ap (λ r. shown (seen r)) (ended_run floor code k w s) }
-on_from floor code k Trapped s = record { output = grows floor code k Trapped s; stays = ap (λ r. shown (seen r)) (trapped_run floor code k s) }
+on_from floor code k (Exited w) s = record { output = grows floor code k (Exited w) s; stays = ap (λ r. shown (observed r)) (ended_run floor code k w s) }
+on_from floor code k Trapped s = record { output = grows floor code k Trapped s; stays = ap (λ r. shown (observed r)) (trapped_run floor code k s) }
 
-pub run_more : (floor : ℕ) (code : List ℕ) (m k : ℕ) (r : Run) → GoesOn (shown (seen (run_above floor code m r))) (shown (seen (run_above floor code (m + k) r)))
+pub run_more : (floor : ℕ) (code : List ℕ) (m k : ℕ) (r : Run) → GoesOn (shown (observed (run_above floor code m r))) (shown (observed (run_above floor code (m + k) r)))
 run_more floor code m k r =
     let x = run_above floor code m r in
-    subst (λ y. GoesOn (shown (seen (run_above floor code m r))) (shown (seen y))) (sym (run_add floor code m k r)) (on_from floor code k x.outcome x.state)
+    subst (λ y. GoesOn (shown (observed (run_above floor code m r))) (shown (observed y))) (sym (run_add floor code m k r)) (on_from floor code k x.outcome x.state)
 
 -- ---- the whole machine is the one whose stack begins at `stack_from`
 

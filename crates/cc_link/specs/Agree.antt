@@ -3,16 +3,16 @@ use Rattle.std.specs.Prelude.{ℕ, List}
 use Rattle.cc_rv32.specs.declared.image.Image.{Image}
 use Rattle.cc_rv32.specs.declared.outcome.MachineOutcome.{MachineOutcome}
 use Rattle.cc_rv32.specs.declared.outcome.MachineOutcome.TheVariants as machine
-use Rattle.cc_rv32.specs.Machine.{Behavior, machine_behavior}
+use Rattle.cc_rv32.specs.Machine.{Behavior, machine_behavior, observed_machine}
 use Rattle.cc_ast.specs.Tree.{External, Source}
 use Rattle.cc_ast.specs.Parse.{SpellsText}
 use Rattle.cc_types.specs.Typed.{IsTyped}
 use Rattle.cc_types.specs.Verdict.{source_with}
-use Rattle.cc_c_semantics.specs.Meaning.{source_behavior}
+use Rattle.cc_c_semantics.specs.Meaning.{observed_behavior, source_behavior}
 use Rattle.cc_c_semantics.specs.Checked.{behavior}
 use Rattle.cc_c_semantics.specs.declared.mode.Mode.{Mode}
 use Rattle.cc_c_semantics.specs.Numbered.{without_cause}
-use Rattle.cc_simulation.specs.Behavior.{AreWords, Stop, Going, Ended, Wrong, Outcome, Follows}
+use Rattle.cc_simulation.specs.Behavior.{AreWords, Stop, Going, Ended, Wrong, Outcome, in_words, Follows}
 
 -- how a run of the machine stops: an exit ends the run with a word, and a trap is a run that went wrong
 abbrev pub stop_of : MachineOutcome → Stop ℕ
@@ -23,13 +23,13 @@ stop_of machine.Trapped = Wrong
 abbrev pub shown : Behavior → Outcome ℕ
 shown b = record { stop = stop_of b.outcome; output = b.output }
 
--- what an image does on an input, within a number of instructions
+-- what an image does on an input, within a number of instructions: what it writes, and where it reads
 abbrev pub image_behavior : Image → (input : List ℕ) → ℕ → Outcome ℕ
-image_behavior image input m = shown (machine_behavior image input m)
+image_behavior image input m = shown (observed_machine image input m)
 
--- what a program does on an input, within a number of steps
+-- what a program does on an input, within a number of steps: what it writes, and where it reads
 abbrev pub program_behavior : Source → (input : List ℕ) → ℕ → Outcome ℕ
-program_behavior source input n = without_cause (source_behavior source input n)
+program_behavior source input n = without_cause (observed_behavior source input n)
 
 -- the text spells `tree`, and the image's run follows the run of this program
 pub record Agreement (text : List ℕ) (image : Image) : Type 0 where
@@ -58,3 +58,19 @@ pub record AgreementIn (mode : Mode) (text : List ℕ) (image : Image) : Type 0 
 
 abbrev pub AgreeIn : Mode → List ℕ → Image → Type 0
 AgreeIn mode text image = ∥ AgreementIn mode text image ∥₁
+
+-- ---- in words alone: it is not seen where a run reads
+
+-- the text and the image agree in the words that they write
+pub record WordsAgreement (text : List ℕ) (image : Image) : Type 0 where
+  pub tree : List External
+  pub spelled : SpellsText text tree
+  pub typed : IsTyped tree
+  pub follows : (input : List ℕ) → AreWords input → Follows (λ n. without_cause (source_behavior (source_with text tree) input n)) (λ m. shown (machine_behavior image input m))
+
+-- the same in a mode
+pub record WordsAgreementIn (mode : Mode) (text : List ℕ) (image : Image) : Type 0 where
+  pub tree : List External
+  pub spelled : SpellsText text tree
+  pub typed : IsTyped tree
+  pub follows : (input : List ℕ) → AreWords input → Follows (λ n. in_words (behavior_in mode (source_with text tree) input n)) (λ m. shown (machine_behavior image input m))

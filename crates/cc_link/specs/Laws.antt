@@ -8,7 +8,7 @@ use Rattle.cc_c_semantics.specs.declared.mode.Mode.{Mode}
 use Rattle.cc_c_semantics.specs.declared.mode.Mode.TheVariants.{Plain}
 use Rattle.cc_unit.specs.declared.unit.StoredUnit.{StoredUnit}
 use Rattle.cc_emit.specs.Piece.{Piece, IsPieceOfUnit}
-use Rattle.cc_link.specs.Agree.{Agree, AgreeIn}
+use Rattle.cc_link.specs.Agree.{Agree, AgreeIn, WordsAgreement, WordsAgreementIn}
 use Rattle.cc_link.specs.Certificate.{SpellsAll, EachKeepsUpIn}
 use Rattle.cc_link.specs.Linked.{linked, linked_in}
 use Rattle.cc_link.specs.Made.{IsMadeIn}
@@ -28,6 +28,13 @@ LinkedUnitsFollow = (mode : Mode) (s : Source) (pieces : List Piece) (u : Stored
 -- an image that agrees with its text in some mode agrees with its text
 abbrev pub AgreeInAgree : Type 0
 AgreeInAgree = (mode : Mode) (text : List ℕ) (image : Image) → AgreeIn mode text image → Agree text image
+
+-- an image that agrees with a text agrees with it in words, also in each mode
+abbrev pub AgreeInWords : Type 0
+AgreeInWords = (text : List ℕ) (image : Image) → Agree text image → ∥ WordsAgreement text image ∥₁
+
+abbrev pub AgreeInModeInWords : Type 0
+AgreeInModeInWords = (mode : Mode) (text : List ℕ) (image : Image) → AgreeIn mode text image → ∥ WordsAgreementIn mode text image ∥₁
 
 -- the certificate spells an LTL function for each function of the unit's text, whose run keeps up with that function
 pub record IsCertifiedIn (mode : Mode) (u : StoredUnit) : Type 0 where

@@ -4,7 +4,7 @@ ghost use Rattle.cc_tokens.specs.Tokens.{TokensAreOne};
 ghost use Rattle.cc_ast.specs.Limits.{TreesAreOne};
 ghost use Rattle.cc_c_semantics.specs.Calls.{ObjectsAreSized, TypedUnitsHaveMain};
 ghost use Rattle.cc_c_semantics.specs.Numbered.{CheckedFollows, ProgramsAreNumbered, TypedUnitsHaveMeanings};
-ghost use Rattle.cc_link.specs.Laws.{AgreeInAgree, LinkedUnitsAgree, LinkedUnitsFollow, MadeUnitsAreCertified, UnitsAreCertifiedIn};
+ghost use Rattle.cc_link.specs.Laws.{AgreeInAgree, AgreeInModeInWords, AgreeInWords, LinkedUnitsAgree, LinkedUnitsFollow, MadeUnitsAreCertified, UnitsAreCertifiedIn};
 ghost use Rattle.cc_link.specs.Stack.{LinkedUnitsAreBacked};
 
 use cc_c_semantics::{
@@ -37,6 +37,12 @@ pub fn linked_units_agree()
 {
     unit_laws();
 }
+
+/// What agrees also agrees if only the written words are seen, and not where a run reads.
+pub fn agreement_in_words()
+    ensures plain { AgreeInWords }
+    ensures mode { AgreeInModeInWords }
+{}
 
 /// In each mode the image follows its program also on a board with less stack, as long as it has what the pieces' frames and calls take.
 pub fn linked_units_are_backed()

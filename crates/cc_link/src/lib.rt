@@ -31,7 +31,8 @@ pub use compiling::{compile, compile_functions_in, compile_in, compile_whole_in}
 pub use fault::LinkFault;
 pub use function::{compile_function, compile_function_in, compile_watched_in};
 pub use laws::{
-    linked_units_agree, linked_units_are_backed, linked_units_follow, made_units_are_certified,
+    agreement_in_words, linked_units_agree, linked_units_are_backed, linked_units_follow,
+    made_units_are_certified,
 };
 pub use linking::{lend, link, link_in, link_lent, link_pieces_in};
 pub use order::in_order;

@@ -52,7 +52,7 @@ operate_grows arity (Store width object index from next) after at world words d 
     let y = tried_goes (stored world width object (at (Register index)) (at (Register from))) _ d e in
     keeps world _ d (stored_output world object (at (Register index)) (at (Register from)) (element world width object (at (Register index))) _ y.0 (λ old. refl) y.1) y.2
 operate_grows arity (Call function next) after at world words d e = absurd cc
-operate_grows arity (Read next) after at world words d e = keeps world _ d refl e
+operate_grows arity (Read next) after at world words d e = subst (GrowsTo world) (same_goes _ d e) (_, refl)
 operate_grows arity (Write next) after at world words d e = subst (GrowsTo world) (same_goes _ d e) (_, refl)
 operate_grows arity (Branch from if_nonzero if_zero) after at world words d e = keeps world _ d refl e
 operate_grows arity Return after at world words d e = absurd cc

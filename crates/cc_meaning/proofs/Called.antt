@@ -2,6 +2,7 @@
 use Rattle.std.proofs.Common.{◌≡◌, ℕ, zero, suc, ◌+◌, ◌<◌, ◌≤◌, Bool, true, false, if◌then◌else◌, List, [], ◌∷◌, ◌++◌, length, map, reverse, take, drop, replicate, nat_lt, Option, Some, None, slice_get, codes, refl, sym, ap, ◌∙◌, subst, arith, length-append, append-nil}
 use Rattle.std.proofs.lemmas.Bool.{le-leb}
 use Rattle.std.proofs.lemmas.List.{length-map, length-reverse, length-replicate, reverse-reverse, take_at, drop_at}
+use Rattle.cc_words.specs.Observed.{read_mark}
 use Rattle.cc_ast.specs.Tree.{Name, Parameter}
 use Rattle.cc_types.specs.Names.{same_name}
 use Rattle.cc_types.specs.Scope.{has_name}
@@ -174,12 +175,12 @@ module _ (form : FormTree) (layout : Layout) (defined : List (List ℕ)) (fs : L
   read_by : (cs : List Activation) (total : ℕ) (v : Environment) (p : ℕ) (vs ops : List ℕ) (s : State) (most : ℕ) (input : List ℕ) → s.input ≡ input → slice_get form.code p ≡ Some instruction.Read → Fits v total most vs s
       → Meets form (conf p vs ops cs s) (Value form cs total (conf p vs ops cs s) v most vs (p + 1) ops) (read_input input s)
   read_by cs total v p vs ops s most [] is e h = record {
-    fits = h;
-    leads = instructed form instruction.Read p vs ops cs s (conf (p + 1) vs (0 ∷ ops) cs s) e (ap (λ i. read_move i (conf (p + 1) vs ops cs s)) is);
+    fits = record { names = h.names; laid = h.laid; junk = h.junk; holds = h.holds; room = h.room; steps = h.steps };
+    leads = instructed form instruction.Read p vs ops cs s (conf (p + 1) vs (0 ∷ ops) cs (record s { output = s.output ++ read_mark ∷ [] })) e (ap (λ i. read_move i (conf (p + 1) vs ops cs s)) is);
   }
   read_by cs total v p vs ops s most (w ∷ rest) is e h = record {
     fits = record { names = h.names; laid = h.laid; junk = h.junk; holds = h.holds; room = h.room; steps = h.steps };
-    leads = instructed form instruction.Read p vs ops cs s (conf (p + 1) vs (w ∷ ops) cs (record s { input = rest })) e (ap (λ i. read_move i (conf (p + 1) vs ops cs s)) is);
+    leads = instructed form instruction.Read p vs ops cs s (conf (p + 1) vs (w ∷ ops) cs (record s { input = rest; output = s.output ++ read_mark ∷ [] })) e (ap (λ i. read_move i (conf (p + 1) vs ops cs s)) is);
   }
 
   read_meets : (cs : List Activation) (total : ℕ) (v : Environment) (f ws : List ℕ) (p : ℕ) (vs ops : List ℕ) (s : State) (most : ℕ) → same_name f (codes "write_word") ≡ false → same_name f (codes "read_word") ≡ true → length ws ≡ 0

@@ -15,7 +15,7 @@ use Rattle.cc_layout.specs.Layout.{Layout, LaidObject, laid_from, names_before, 
 use Rattle.cc_layout.specs.Environment.{environment_of}
 use Rattle.cc_meaning.specs.internal.Form.{FunctionCode, functions_code, unit_functions, all_code, entries_from, resolved}
 use Rattle.cc_c_semantics.specs.Outcome as outcome
-use Rattle.cc_c_semantics.specs.Meaning.{State, Run, Gives, Going, Wrong, Function, functions_from, functions, function_named, run_body, run_optional, calls, initial_global, initial_globals, outcome_of, source_behavior}
+use Rattle.cc_c_semantics.specs.Meaning.{State, Run, Gives, Going, Wrong, Function, functions_from, functions, function_named, run_body, run_optional, calls, initial_global, initial_globals, outcome_of, observed_behavior}
 use Rattle.cc_meaning.specs.internal.FormMeaning.{Configuration, form_run, first_configuration, started, form_behavior, FormsMeanTheirUnits}
 use Rattle.cc_c_semantics.proofs.Errors.{nil_left, nil_right, defined_left, defined_right}
 use Rattle.cc_c_semantics.proofs.Held.{all_of, layout_from, get_right}
@@ -166,7 +166,7 @@ module _ (unit : List External) (typed : IsTyped unit) where
 
   -- the form does what the unit does, with no step left and with at least one
   behaves : (text input : List ℕ) (n : ℕ) (e : Entered (resolved unit) layout known (functions unit) (codes "main"))
-      → (k : ℕ) × (form_behavior k (resolved unit) input n ≡ Some (source_behavior (record { text = text; externals = unit }) input n))
+      → (k : ℕ) × (form_behavior k (resolved unit) input n ≡ Some (observed_behavior (record { text = text; externals = unit }) input n))
   behaves text input zero e = (
     0,
     ap (λ o. started 0 (resolved unit) o input 0) e.entry,

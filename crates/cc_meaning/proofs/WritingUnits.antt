@@ -1,5 +1,5 @@
 -- Functions and external declarations, one after another: what is written and what is left together make up the whole.
-use Rattle.std.proofs.Common.{◌≡◌, ℕ, ◌+◌, List, [], ◌∷◌, ◌++◌, length, length-append, append_assoc, refl, sym, ap, ◌∙◌, arith}
+use Rattle.std.proofs.Common.{◌≡◌, ℕ, ◌+◌, false, List, [], ◌∷◌, ◌++◌, length, length-append, append_assoc, refl, sym, ap, ◌∙◌, arith}
 use Rattle.std.proofs.lemmas.List.{append-nil}
 use Rattle.std.specs.Prelude.{codes}
 use Rattle.cc_ast.specs.Tree.{Signature, External, Declaration, Definition, Objects}
@@ -122,7 +122,7 @@ Resolving-last all v code entries rest last none =
 pub form-is : (all : List External) (p : Layout) (code : List Instruction) (entries : List Entry) (main : ℕ) (words : List ℕ)
     → code ≡ all_code (unit_functions all) → entries ≡ entries_from 0 (unit_functions all) → p ≡ layout_of all
     → main ≡ names_before p.functions (codes "main") → words ≡ all_words (objects all)
-    → record { code = code; functions = entries; main = main; words = words } ≡ resolved all
+    → record { code = code; functions = entries; main = main; words = words; observed = false } ≡ resolved all
 form-is all p code entries main words instructions functions ep em ew =
     let start : main ≡ names_before (layout_of all).functions (codes "main") = em ∙ ap (λ (r : Layout). names_before r.functions (codes "main")) ep in
-    λ i. record { code = instructions i; functions = functions i; main = start i; words = ew i }
+    λ i. record { code = instructions i; functions = functions i; main = start i; words = ew i; observed = false }

@@ -60,6 +60,59 @@ impl Words {
     }
 }
 
+/// What a run does that can be seen from outside.
+#[derive(Clone, Copy, PartialEq, Eq, Debug)]
+pub enum Event {
+    /// It reads the next word of its input, or 0 past the input's end.
+    Read,
+    /// It writes this word.
+    Wrote(u32),
+}
+
+/// A list of events.
+pub struct Events {
+    events: Vec<Event>,
+}
+
+// Written by hand, for the same reason.
+impl Drop for Events {
+    fn drop(self) {
+        let Events { events } = self;
+    }
+}
+
+impl Model for Events {
+    ghost use Rattle.std.specs.Prelude.{List};
+    ghost use Rattle.cc_meaning.specs.declared.outcome.Event.{Event};
+
+    ghost Value = { List Event };
+
+    ghost view = { λ e. e.events.items };
+}
+
+impl Events {
+    /// Makes a list from a vector's events. Takes no memory.
+    pub fn from_vec(items: Vec<Event>) -> Events
+        ensures { result ≡ items.items }
+    {
+        Events { events: items }
+    }
+
+    /// The events, in the order in which they came.
+    pub fn as_slice(&self) -> &[Event]
+        ensures { result.now ≡ self.now }
+    {
+        self.events.as_slice()
+    }
+}
+
+/// How a run stops, and where it read and what it wrote until then.
+#[derive(Drop)]
+pub struct Observed {
+    pub stop: Stop,
+    pub events: Events,
+}
+
 /// How a run stops, and the words that it wrote until then.
 #[derive(Drop)]
 pub struct Outcome {

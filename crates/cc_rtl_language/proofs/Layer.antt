@@ -2,6 +2,7 @@
 -- keeps up with its function follows it.
 use Rattle.std.proofs.Common.{◌≡◌, ℕ, List, [], ◌∷◌, Option, Some, None, option_map, refl, subst}
 use Rattle.cc_words.specs.Operators.{apply_binary}
+use Rattle.cc_words.specs.Observed.{read_mark}
 use Rattle.cc_simulation.specs.Behavior.{IsPrefixOf}
 use Rattle.cc_simulation.specs.World.{World, Answer, element}
 use Rattle.cc_simulation.specs.Run.{Move, Goes, Calls, Returns, Fails, tried}
@@ -39,7 +40,7 @@ layered (rtl.Binary op to left right next) r h = tried_case h.output (apply_bina
 layered (rtl.Load width object to index next) r h = tried_case h.output (element h width object (r index)) _ (λ w. begins_refl h.output)
 layered (rtl.Store width object index from next) r h = stored_case h.output (element h width object (r index)) _ _ (λ w. begins_refl h.output)
 layered (rtl.Call f rs to next) r h = (refl, λ a. refl)
-layered (rtl.Read to next) r h = begins_refl h.output
+layered (rtl.Read to next) r h = (read_mark ∷ [], refl)
 layered (rtl.Write from next) r h = (r from ∷ [], refl)
 layered (rtl.Branch from m n) r h = begins_refl h.output
 layered (rtl.Return from) r h = tt

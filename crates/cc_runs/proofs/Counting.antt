@@ -8,6 +8,7 @@ use Rattle.cc_rv32.specs.declared.outcome.MachineOutcome.TheVariants.{Going, Exi
 use Rattle.cc_rv32.specs.Machine.{Run, Behavior, machine_run, machine_behavior, seen, start}
 use Rattle.cc_rv32.proofs.Running.{machine_run-add, machine_run-ended, machine_run-none}
 use Rattle.cc_rv32.specs.Simulation.{Simulation, IsAfter}
+use Rattle.cc_rv32.proofs.After.{after_output}
 use Rattle.cc_runs.specs.declared.count.CountedRun.{CountedRun}
 use Rattle.cc_runs.specs.Count.{IsCount, IsCounted}
 
@@ -68,7 +69,7 @@ pub whole : (image : Image) (words : List ℕ) (steps done left : ℕ) (m : Simu
     → IsCounted image true steps words r
 whole image words steps done left m outcome parts count after told r output is =
     let ends : (machine_behavior image words done).outcome ≡ r.run.outcome = sym (is.0 ∙ told) in
-    let wrote : (machine_behavior image words done).output ≡ r.run.output.items = sym (output ∙ ap (λ (x : Run). x.state.output) after.run) in
+    let wrote : (machine_behavior image words done).output ≡ r.run.output.items = sym (output ∙ after_output image words done m after) in
     let same : machine_behavior image words done ≡ record { outcome = r.run.outcome; output = r.run.output.items } = λ i. record { outcome = ends i; output = wrote i } in
     let number : done ≡ steps - left = omega arith in
     record {

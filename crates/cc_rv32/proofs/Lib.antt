@@ -17,6 +17,8 @@ pub mod Simulates
 pub mod Running
 -- the services
 pub mod Serving
+-- one instruction that does not read, after a run of flat operations
+pub mod Unread
 -- the lists at the start represent the start
 pub mod Starting
 -- joining runs

@@ -1,13 +1,13 @@
 // The simulator: it runs an image on an input, for a number of instructions at a time.
 
-ghost use Rattle.std.specs.Prelude.{◌≡◌, ◌≢◌, ◌+◌, ◌<◌, ℕ, List, IfOk, OnErr};
+ghost use Rattle.std.specs.Prelude.{◌≡◌, ◌≢◌, ◌+◌, ◌-◌, ◌<◌, ℕ, List, Option, IfOk, IfSome, OnErr, option_map, unwrap_or, slice_get};
 ghost use Rattle.cc_rv32.specs.Machine.{Run, machine_run, machine_behavior, start};
-ghost use Rattle.cc_rv32.specs.Simulation.{shown_run, IsAfter, IsWrite};
+ghost use Rattle.cc_rv32.specs.Simulation.{shown_run, in_words, IsAfter, IsWrite, StopsToRead, Wrote};
 
 use crate::fault::MachineFault;
 use crate::image::Image;
 use crate::outcome::MachineOutcome;
-use crate::simulator::{Simulator, run_for};
+use crate::simulator::{Simulator, run_for, run_to_read};
 use std::alloc::Global;
 use std::marker::Model;
 
@@ -53,7 +53,8 @@ impl Machine {
     /// (OutOfMemory) only if the instruction writes a word and the output could not grow; then nothing has changed.
     pub fn step(&mut self) -> Result<MachineOutcome, MachineFault>
         ensures code { self.new.code ≡ self.old.code }
-        ensures run { IfOk result (λ outcome. shown_run self.new ≡ machine_run self.old.code 1 (shown_run self.old)) }
+        ensures words { in_words (shown_run self.old) ≡ shown_run self.old }
+        ensures run { IfOk result (λ outcome. shown_run self.new ≡ in_words (machine_run self.old.code 1 (shown_run self.old))) }
         ensures outcome { IfOk result (λ outcome. outcome ≡ self.new.outcome) }
         ensures refused { OnErr result ((shown_run self.new ≡ shown_run self.old) × IsWrite self.new.code (shown_run self.new)) }
     {
@@ -65,11 +66,12 @@ impl Machine {
     /// could not grow; then the instructions before that one have been executed.
     pub fn run(&mut self, steps: u64) -> Result<MachineOutcome, MachineFault>
         ensures code { self.new.code ≡ self.old.code }
-        ensures run { IfOk result (λ outcome. shown_run self.new ≡ machine_run self.old.code steps (shown_run self.old)) }
+        ensures words { in_words (shown_run self.old) ≡ shown_run self.old }
+        ensures run { IfOk result (λ outcome. shown_run self.new ≡ in_words (machine_run self.old.code steps (shown_run self.old))) }
         ensures outcome { IfOk result (λ outcome. outcome ≡ self.new.outcome) }
         ensures behavior { IfOk result (λ outcome. (image : Image) (input : List ℕ) (done : ℕ) → IsAfter image input done self.old
             → IsAfter image input (done + steps) self.new × (outcome ≡ (machine_behavior image input (done + steps)).outcome)) }
-        ensures refused { OnErr result ((k : ℕ) × (k < steps) × (shown_run self.new ≡ machine_run self.old.code k (shown_run self.old))
+        ensures refused { OnErr result ((k : ℕ) × (k < steps) × (shown_run self.new ≡ in_words (machine_run self.old.code k (shown_run self.old)))
             × IsWrite self.new.code (shown_run self.new)) }
     {
         let simulator = &mut self.simulator;
@@ -77,6 +79,37 @@ impl Machine {
             return Err(MachineFault::OutOfMemory);
         };
         Ok(simulator.outcome)
+    }
+
+    /// Executes this many instructions, or fewer if the machine exits or traps, but stops before an instruction that reads. Returns how
+    /// many instructions are left then, at least 1, and otherwise `None`. The input stays as it is. Fails with 40 (OutOfMemory) only if an
+    /// instruction writes a word and the output could not grow; then the instructions before that one have been executed.
+    pub fn run_to_read(&mut self, steps: u64) -> Result<Option<u64>, MachineFault>
+        ensures code { self.new.code ≡ self.old.code }
+        ensures wrote { IfOk result (λ left. Wrote self.old.code (steps - unwrap_or left 0) self.old self.new) }
+        ensures read { IfOk result (λ left. IfSome left (λ n. StopsToRead steps n self.new)) }
+        ensures refused { OnErr result ((k : ℕ) × (k < steps) × Wrote self.old.code k self.old self.new × IsWrite self.new.code (shown_run self.new)) }
+    {
+        let simulator = &mut self.simulator;
+        let Ok(left) = run_to_read(simulator, steps) else {
+            return Err(MachineFault::OutOfMemory);
+        };
+        Ok(left)
+    }
+
+    /// The next word of the input, if one is left. Takes no memory.
+    pub fn next_word(&self) -> Option<u32>
+        ensures { result ≡ slice_get self.now.input 0 }
+    {
+        let simulator = &self.simulator;
+        simulator.input.get(simulator.taken).copied()
+    }
+
+    /// How the run ended, or that it is going. Takes no memory.
+    pub fn outcome(&self) -> MachineOutcome
+        ensures { result ≡ self.now.outcome }
+    {
+        self.simulator.outcome
     }
 
     /// The words that the program has written so far, oldest first. Takes no memory.

@@ -1,6 +1,7 @@
 -- What a bounded run shows, and when one behavior follows another. A behavior is a function from a bound to an outcome. A bound
 -- is a number of steps of the source, a number of instructions, or a number of moves with a number of steps in calls.
 use Rattle.std.specs.Prelude.{◌≡◌, ℕ, ◌^◌, ◌<◌, ◌≤◌, List, [], ◌∷◌, ◌++◌}
+use Rattle.cc_words.specs.Observed.{written_words}
 
 -- each number is a word
 abbrev pub AreWords : List ℕ → Type 0
@@ -13,10 +14,14 @@ pub data Stop (R : Type 0) : Type 0 where
   Ended : R → Stop R
   Wrong : Stop R
 
--- what a run has reached within its bound, and its output so far
+-- what a run has reached within its bound, and its output so far: what it wrote and where it read
 pub record Outcome (R : Type 0) : Type 0 where
   pub stop : Stop R
   pub output : List ℕ
+
+-- an outcome without the marks of reads
+abbrev pub in_words : {R : Type 0} → Outcome R → Outcome R
+in_words o = record { stop = o.stop; output = written_words o.output }
 
 -- the run has not gone wrong
 abbrev pub IsRight : {R : Type 0} → Stop R → Type 0

@@ -2,7 +2,7 @@
 -- specs, so a language's own law uses the lemma of the same form in `proofs/` (`Behaving`, `Cuts`, `Following`). The laws of simulations
 -- are only lemmas (`proofs/Simulating`, `proofs/Lockstep`), because they range over relations, which no contract can.
 use Rattle.std.specs.Prelude.{ℕ, suc, ◌<◌, List}
-use Rattle.cc_simulation.specs.Behavior.{Outcome, Follows, FollowsForAll}
+use Rattle.cc_simulation.specs.Behavior.{Outcome, in_words, Follows, FollowsForAll}
 use Rattle.cc_simulation.specs.World.{World}
 use Rattle.cc_simulation.specs.Run.{Move, run, work}
 use Rattle.cc_simulation.specs.Meaning.{Meaning, most_open, IsCall, call_effect, answered}
@@ -20,6 +20,10 @@ FollowsOn A B C R = (a : A → Outcome R) (b : B → Outcome R) (z : C → Outco
 -- following is transitive also for a run that depends on unknown words, for all lists of them
 abbrev pub FollowsOnForAll : (A B R : Type 0) → Type 0
 FollowsOnForAll A B R = (a : A → Outcome R) (b : B → Outcome R) (z : List ℕ → ℕ × ℕ → Outcome R) → Follows a b → FollowsForAll b z → FollowsForAll a z
+
+-- what follows a behavior also follows it if only the words are seen, and not where a run reads
+abbrev pub FollowsInWords : (B C R : Type 0) → Type 0
+FollowsInWords B C R = (a : B → Outcome R) (z : C → Outcome R) → Follows a z → Follows (λ n. in_words (a n)) (λ m. in_words (z m))
 
 -- two cuts of one run are comparable, together with their work
 abbrev pub CutsAreComparable : (C : Type 0) → Type 0

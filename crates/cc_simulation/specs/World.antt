@@ -4,6 +4,7 @@ use Rattle.std.specs.Prelude.{◌≡◌, ℕ, if◌then◌else◌, List, [], ◌
 use Rattle.cc_words.specs.declared.operators.Width.{Width}
 use Rattle.cc_words.specs.declared.operators.Width.TheVariants.{Word}
 use Rattle.cc_words.specs.Widths.{same_width, kept}
+use Rattle.cc_words.specs.Observed.{read_mark}
 use Rattle.cc_simulation.specs.Behavior.{AreWords}
 
 -- an object: how wide its elements are, and the word of each
@@ -19,7 +20,7 @@ pub record Size : Type 0 where
 abbrev pub size_of : Object → Size
 size_of o = record { width = o.width; elements = length o.words }
 
--- the objects, the rest of the input, the output so far
+-- the objects, the rest of the input, the output so far with a mark for each read
 pub record World : Type 0 where
   pub globals : List Object
   pub input : List ℕ
@@ -87,12 +88,12 @@ with_element h object index word = record h { globals = set h.globals object (ob
 abbrev pub stored : World → Width → (object index word : ℕ) → Option World
 stored h width object index word = option_map (λ old. with_element h object index (kept width word)) (element h width object index)
 
--- the next word of the input, or 0, and the world without it
+-- the next word of the input, or 0, and the world without it, whose output has a mark of the read
 abbrev pub next_word : World → ℕ
 next_word h = first_or_zero h.input
 
 abbrev pub after_read : World → World
-after_read h = record h { input = rest_of h.input }
+after_read h = record h { input = rest_of h.input; output = h.output ++ read_mark ∷ [] }
 
 -- the world after one more word is written
 abbrev pub after_write : (word : ℕ) → World → World

@@ -7,7 +7,7 @@
 //! pass. Other crates use only what follows from it: the run follows the source (`Follows`).
 #![tactic(auto)]
 
-ghost use Rattle.cc_simulation.specs.Laws.{FollowsItself, FollowsOn, FollowsOnForAll, CutsAreComparable, TrackedFollows, TrackedFollowsForAll};
+ghost use Rattle.cc_simulation.specs.Laws.{FollowsItself, FollowsOn, FollowsOnForAll, FollowsInWords, CutsAreComparable, TrackedFollows, TrackedFollowsForAll};
 
 /// Shows that each behavior follows itself.
 pub fn follows_itself<B, R>()
@@ -19,6 +19,11 @@ pub fn follows_itself<B, R>()
 pub fn follows_on<A, B, C, R>()
     ensures each { FollowsOn A B C R }
     ensures for_all { FollowsOnForAll A B R }
+{}
+
+/// Shows that what follows a behavior also follows it if only the written words are seen.
+pub fn follows_in_words<B, C, R>()
+    ensures { FollowsInWords B C R }
 {}
 
 /// Shows that two cuts of one run are comparable: one is the beginning of the other, and did no more work.

@@ -5,3 +5,5 @@ pub mod Laws
 pub mod Sums
 -- quotient and remainder as in C99 6.5.5, and the signed value of a right shift
 pub mod Quotients
+-- the words of an output, and those of a longer one
+pub mod Observed

@@ -4,6 +4,8 @@ pub mod Words
 pub mod Operators
 -- How wide an object's elements are, which part of a word an element keeps, and how many words some elements fill.
 pub mod Widths
+-- What a run shows: the words that it writes, and marks for its reads.
+pub mod Observed
 -- Worked values of these definitions, each shown by computation. No contract depends on them.
 pub mod rows
 -- Definitions that only private contracts and proofs use.

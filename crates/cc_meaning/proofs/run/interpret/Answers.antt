@@ -1,9 +1,11 @@
 -- The form's run from the start of `main` has the source's behavior.
-use Rattle.std.proofs.Common.{◌≡◌, ℕ, List, ◌-◌, ◌<◌, length, ap, ◌∙◌, subst, arith}
+use Rattle.std.proofs.Common.{◌≡◌, ℕ, List, ◌-◌, ◌<◌, false, length, ap, ◌∙◌, subst, arith}
 use Rattle.cc_ast.specs.Source.{source}
-use Rattle.cc_c_semantics.specs.Meaning.{source_behavior}
+use Rattle.cc_words.specs.Observed.{written_words}
+use Rattle.cc_c_semantics.specs.Outcome.{Stop}
+use Rattle.cc_c_semantics.specs.Meaning.{observed_behavior}
 use Rattle.cc_meaning.specs.Erase.{stop_tree}
-use Rattle.cc_meaning.specs.internal.Form.{resolved}
+use Rattle.cc_meaning.specs.internal.Form.{resolved, observing}
 use Rattle.cc_meaning.specs.internal.FormErase.{form_tree}
 use Rattle.cc_meaning.specs.internal.FormMeaning.{first_configuration}
 use Rattle.cc_meaning.specs.internal.Ran.{ComesTo}
@@ -27,11 +29,12 @@ run-halt-requires c =
     let is : form ≡ resolved unit.externals = c.in_ok-form.ensures ∙ ap resolved f.tree in
     let first = first_configuration form c.index-main.result.now c.args.input.now (c.args.steps - 1) in
     let comes = main_comes unit c.args.input.now c.args.steps form c.index-main.result.now f.typed f.limits is (omega arith) c.index-main.ensures in (
+      false,
       unit.externals,
       first,
-      source_behavior unit c.args.input.now c.args.steps,
+      observed_behavior unit c.args.input.now c.args.steps,
       subst (λ form'. Shows c.in_ok-interpreter.interpreter form' first) is c.in_ok-interpreter.ensures,
-      subst (λ form'. ComesTo form' first (source_behavior unit c.args.input.now c.args.steps)) is comes,
+      subst (λ form'. ComesTo form' first (observed_behavior unit c.args.input.now c.args.steps)) is comes,
     )
 
 pub returns-in-Stopped : goal.returns-in-Stopped
@@ -42,5 +45,7 @@ returns-in-Stopped c =
     let is : form ≡ resolved unit.externals = c.in_ok-form.ensures ∙ ap resolved f.tree in
     let first = first_configuration form c.index-main.result.now c.args.input.now (c.args.steps - 1) in
     let comes = main_comes unit c.args.input.now c.args.steps form c.index-main.result.now f.typed f.limits is (omega arith) c.index-main.ensures in
-    ap (λ (ws : List ℕ). record { stop = stop_tree c.in-Stopped.stop; output = ws }) c.from_vec-in-Stopped.ensures
-    ∙ c.in-Stopped.ensures form first (source_behavior unit c.args.input.now c.args.steps) c.in_ok-interpreter.ensures comes
+    let o = observed_behavior unit c.args.input.now c.args.steps in
+    let t = c.in-Stopped.ensures form first o c.in_ok-interpreter.ensures comes in
+    ap (λ (ws : List ℕ). record { stop = stop_tree c.in-Stopped.stop; output = ws }) (c.from_vec-in-Stopped.ensures ∙ t.1)
+    ∙ ap (λ (s : Stop ℕ). record { stop = s; output = written_words o.output }) t.0

@@ -1,6 +1,6 @@
 -- The second machine begins at a point at which the first one was still going. When it ends, or the bound is reached, the number of its
 -- instructions is the count.
-use Rattle.std.proofs.Common.{◌≡◌, ◌≤◌, ◌⊎◌, inl, inr, ℕ, ◌+◌, true, ap, ◌∙◌, subst, arith}
+use Rattle.std.proofs.Common.{◌≡◌, ◌≤◌, ◌⊎◌, inl, inr, ℕ, ◌+◌, true, sym, ap, ◌∙◌, subst, arith, rules}
 use Rattle.std.proofs.lemmas.Bool.{false≢true}
 use Rattle.cc_rv32.specs.declared.outcome.MachineOutcome.TheVariants.{Going}
 use Rattle.cc_rv32.specs.Machine.{machine_behavior}
@@ -24,6 +24,15 @@ loop-left-init c =
       there.1 ∙ ap (λ (n : ℕ). (machine_behavior image words n).outcome) none,
       λ n less. goes_before image words n begun (omega (arith, less)) c.in-Ok.ensures.going,
     )
+
+pub loop-left-preserved : goal.loop-left-preserved
+loop-left-preserved c =
+    let image = c.args.image.now in
+    let words = c.args.words.now in
+    let i = c.loop-left.invariant in
+    let there = c.in-Ok-run-2.ensures.behavior image words i.0 i.2 in
+    let was : c.loop-left.outcome ≡ Going = search rules in
+    (i.0 + 1, omega arith, there.0, there.1, λ n less. goes_before image words n i.0 (omega (arith, less)) (sym i.3 ∙ was))
 
 pub returns : goal.returns
 returns c =
