@@ -1,11 +1,12 @@
 #!/usr/bin/env python3
-"""Compares what the interpreter, the compiled program and gcc's program write, for random programs whose meaning the standard fixes.
+"""Compares what the interpreter and the compiled program read and write, in its order, and what gcc's program writes, for random programs whose
+meaning the standard fixes.
 
 compare.py [COUNT] [SEED]: COUNT programs (100), from a seed (1). The programs have both types, casts, all operators, arrays of words and of bytes, locals,
 functions of up to eight parameters (some may return at once), elements next to one another, words of the input and all statements except goto; shifts
 and divisions are guarded, and sums wrap (-fwrapv). Every second program has further objects between its own, so that some of these lie beyond the
 first 4 KiB of the globals, or across their end. The words that are written have to be the same, and also the word that main returns; of that, gcc
-gives only the last eight bits. A program in which an operation goes wrong is passed over, after a check that it is compiled. Build the program first
+gives only the last eight bits. The reads of gcc's program are not compared. A program in which an operation goes wrong is passed over, after a check that it is compiled. Build the program first
 (./cclib --prove), or set CCLIB to a built one. The text of a program whose words differ is printed. gcc compiles 25 of them as one text, in which each
 name at file scope has the program's number."""
 
@@ -208,10 +209,10 @@ def gcc_lines(texts, room):
 
 
 def judged(text):
-    """The words and the end on which the interpreter and the compiled program agree, or None if an operation goes wrong, or a text that
-    says how they differ."""
-    (*words, end), _ = lines_of([PROGRAM, "--quiet", "interpret", MOST, *WORDS], text)
-    (*made, came), _ = lines_of([PROGRAM, "--quiet", "run", MOST, *WORDS], text)
+    """The words written, the number of reads and the end on which the interpreter and the compiled program agree, or None if an operation
+    goes wrong, or a text that says how they differ."""
+    (*words, end), _ = lines_of([PROGRAM, "--quiet", "interpret", "--reads", MOST, *WORDS], text)
+    (*made, came), _ = lines_of([PROGRAM, "--quiet", "run", "--reads", MOST, *WORDS], text)
     if came.startswith("fault"):
         return f"it is not compiled: {came}"
     if end.startswith("wrong"):
@@ -219,26 +220,28 @@ def judged(text):
     if not end.startswith("ended"):
         return f"the interpreter says {end}"
     if made != words or came != end.replace("ended", "exited"):
-        return f"the compiled program writes other words, or {came} where the interpreter says {end}"
-    return words, end
+        return f"the compiled program reads or writes other words, or {came} where the interpreter says {end}"
+    written = [it.removeprefix("write ") for it in words if it.startswith("write ")]
+    return written, len(words) - len(written), end
 
 
 def judged_all(texts, room):
-    """For each program how many words all three write, or None if an operation goes wrong, or a text that says which of them differs."""
+    """For each program how many words all three write, and how many two of them read, or None if an operation goes wrong, or a text that says
+    which of them differs."""
     found = [judged(it) for it in texts]
     ended = [at for at, it in enumerate(found) if isinstance(it, tuple)]
     theirs = gcc_lines([texts[it] for it in ended], room) if ended else []
     for at, (lines, status) in zip(ended, theirs):
-        words, end = found[at]
+        words, reads, end = found[at]
         is_same = lines == words and status == int(end.split()[1]) % 256
-        found[at] = len(words) if is_same else f"gcc's program writes other words, or ends with {status} where the interpreter says {end}"
+        found[at] = (len(words), reads) if is_same else f"gcc's program writes other words, or ends with {status} where the interpreter says {end}"
     return found
 
 
 def main():
     count = int(sys.argv[1]) if len(sys.argv) > 1 else 100
     first = int(sys.argv[2]) if len(sys.argv) > 2 else 1
-    same, words, passed_over, other = 0, 0, 0, 0
+    same, words, reads, passed_over, other = 0, 0, 0, 0, 0
     with tempfile.TemporaryDirectory() as room:
         for begun in range(first, first + count, BATCH):
             seeds = range(begun, min(begun + BATCH, first + count))
@@ -250,8 +253,9 @@ def main():
                     other += 1
                     print(f"seed {seed}: {found}\n{text}", file=sys.stderr)
                 else:
-                    same, words = same + 1, words + found
-    print(f"{same} programs write the same words in all three, {words} in all; {passed_over} passed over, since an operation goes wrong; {other} differ")
+                    same, words, reads = same + 1, words + found[0], reads + found[1]
+    print(f"{same} programs write the same words in all three, {words} in all, and make the same {reads} reads; "
+        f"{passed_over} passed over, since an operation goes wrong; {other} differ")
     return 1 if other else 0
 
 

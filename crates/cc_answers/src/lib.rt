@@ -20,7 +20,7 @@ mod words;
 pub use commands::{explain_bad_line, explain_no_command, greet};
 pub use line::{name_of, write_fault_line};
 pub use person::{Persons, Telling};
-pub use run::{ImageRun, run_image, write_run, write_words};
+pub use run::{ImageRun, run_image, write_outcome, write_run, write_words};
 pub use script::{
     Refusal, tell_audit, tell_fault, tell_names, tell_no_memory, tell_number, tell_ok,
     tell_refusal, tell_run, tell_space, tell_text,

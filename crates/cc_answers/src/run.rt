@@ -50,8 +50,8 @@ pub fn write_words<W: Write>(words: &[u32], writer: &mut W) -> io::Result<()>
     Ok(())
 }
 
-// Writes how a run ended.
-fn write_outcome<W: Write>(outcome: MachineOutcome, writer: &mut W) -> io::Result<()>
+/// Writes how a run ended. Fails if the writer failed.
+pub fn write_outcome<W: Write>(outcome: MachineOutcome, writer: &mut W) -> io::Result<()>
     ensures { OnOk result (Appends (W.contents writer.old) (W.contents writer.new) (machine_outcome_text outcome)) }
 {
     match outcome {

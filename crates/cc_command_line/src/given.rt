@@ -36,6 +36,12 @@ pub(crate) const COUNT: Word = Word(
     "Print the least number of instructions, or of steps, with that end",
 );
 
+pub(crate) const READS: Word = Word(
+    "reads",
+    Form::Flag,
+    "Print each word that is read or written as a line of its own: `read V` or `write V`",
+);
+
 pub(crate) const CHECKED: Word = Word(
     "checked",
     Form::Flag,

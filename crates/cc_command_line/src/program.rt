@@ -6,8 +6,8 @@ ghost use Rattle.cc_command_line.specs.Work.{IsAllowed};
 use crate::command_line::Work;
 use crate::files::{FILE, FILES};
 use crate::given::{
-    CHECKED, COUNT, INPUT, INSTRUCTIONS, STEPS, UNEXPECTED, expect_no_more, input_of, kind_of,
-    steps_of, text_if_given,
+    CHECKED, COUNT, INPUT, INSTRUCTIONS, READS, STEPS, UNEXPECTED, expect_no_more, input_of,
+    kind_of, steps_of, text_if_given,
 };
 use crate::refused::Refused;
 use crate::row::{Form, Reader, Row, Word};
@@ -29,7 +29,7 @@ pub(crate) static INTERPRET: Row = Row {
     reader: Reader::Interpret,
     whole: "cclib interpret",
     about: "Print the words that the program writes, and how it ends, by the definition of C",
-    words: &[STEPS, INPUT, FILE, COUNT],
+    words: &[STEPS, INPUT, FILE, COUNT, READS],
     help: "The program comes on standard input: cclib interpret 1000 < examples/quotient.c",
 };
 
@@ -38,7 +38,7 @@ pub(crate) static RUN: Row = Row {
     reader: Reader::Run,
     whole: "cclib run",
     about: "Compile the program and run its image: print the words that it writes, and how it ends",
-    words: &[INSTRUCTIONS, INPUT, FILE, CHECKED, COUNT],
+    words: &[INSTRUCTIONS, INPUT, FILE, CHECKED, COUNT, READS],
     help: "The program comes on standard input: cclib run 1000 < examples/quotient.c",
 };
 
@@ -78,16 +78,35 @@ pub(crate) static SAFE: Row = Row {
     help: "The program comes on standard input, or in files: cclib safe -f main.c -f table.c",
 };
 
+// What a run is told beside its answer.
+#[derive(Clone, Copy)]
+enum Telling {
+    Nothing,
+    Count,
+    Reads,
+}
+
+// What `--count` and `--reads` ask for.
+fn telling_of(given: &ArgMatches<'_>) -> Result<Telling, Refused> {
+    match (given.get_flag("count"), given.get_flag("reads")) {
+        (false, false) => Ok(Telling::Nothing),
+        (true, false) => Ok(Telling::Count),
+        (false, true) => Ok(Telling::Reads),
+        (true, true) => Err(Refused::ByCommand("--count and --reads do not go together")),
+    }
+}
+
 /// What `interpret` asks for.
 pub(crate) fn interpret_of(alloc: Global, given: &ArgMatches<'_>) -> Result<Work, Refused>
     ensures { IfOk result IsAllowed }
 {
     let steps = steps_of(given)?;
+    let telling = telling_of(given)?;
     let words = input_of(alloc, given)?;
-    Ok(Work::One(if given.get_flag("count") {
-        Task::InterpretCounted(steps, words)
-    } else {
-        Task::Interpret(steps, words)
+    Ok(Work::One(match telling {
+        Telling::Nothing => Task::Interpret(steps, words),
+        Telling::Count => Task::InterpretCounted(steps, words),
+        Telling::Reads => Task::InterpretObserved(steps, words),
     }))
 }
 
@@ -97,11 +116,12 @@ pub(crate) fn run_of(alloc: Global, given: &ArgMatches<'_>) -> Result<Work, Refu
 {
     let kind = kind_of(given);
     let steps = steps_of(given)?;
+    let telling = telling_of(given)?;
     let words = input_of(alloc, given)?;
-    Ok(Work::One(if given.get_flag("count") {
-        Task::RunCounted(kind, steps, words)
-    } else {
-        Task::Run(kind, steps, words)
+    Ok(Work::One(match telling {
+        Telling::Nothing => Task::Run(kind, steps, words),
+        Telling::Count => Task::RunCounted(kind, steps, words),
+        Telling::Reads => Task::RunObserved(kind, steps, words),
     }))
 }
 

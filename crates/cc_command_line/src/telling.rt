@@ -45,6 +45,11 @@ fn may_name_function(name: &str) -> bool {
         .all(|byte| byte.is_ascii_alphanumeric() || byte == b'_')
 }
 
+// Whether a screen shows this name as it is.
+fn is_shown(name: &str) -> bool {
+    name.chars().all(|c| !c.is_control())
+}
+
 // Says that the program is read from standard input, if the FUNCTION of `stages` can't be a function's name: it may be meant as
 // the program's file.
 fn note_file<R: Eprint>(rt: &R, request: &Invocation) {
@@ -53,6 +58,7 @@ fn note_file<R: Eprint>(rt: &R, request: &Invocation) {
     }
     if let Work::Stages(_, Some(name)) = &request.work
         && !may_name_function(name.as_str())
+        && is_shown(name.as_str())
     {
         let _ = eprintln!(rt;
             "cclib: the program is read from standard input; if '{name}' is its file, write '< {name}' or '--file {name}'"

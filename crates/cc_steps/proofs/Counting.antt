@@ -1,6 +1,6 @@
 -- A run within two numbers of steps: if it is going within the larger one, it is going within the smaller one, and once it has
 -- ended it stays ended.
-use Rattle.std.proofs.Common.{◌≡◌, ◌⊎◌, inl, inr, ℕ, ◌+◌, ◌-◌, ◌<◌, ◌≤◌, List, refl, sym, ap, subst, ◌∙◌, arith}
+use Rattle.std.proofs.Common.{◌≡◌, ◌⊎◌, inl, inr, ℕ, ◌+◌, ◌-◌, ◌<◌, ◌≤◌, List, refl, sym, ap, ◌∙◌, arith}
 use Rattle.cc_ast.specs.Tree.{Source}
 use Rattle.cc_c_semantics.specs.Function.{GoesOn, RunsGoOn}
 use Rattle.cc_c_semantics.specs.Meaning.{source_behavior}

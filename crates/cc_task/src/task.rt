@@ -25,6 +25,10 @@ pub enum Task {
     InterpretCounted(u64, Vec<u32>),
     /// As `Run`, and count the instructions.
     RunCounted(Kind, u64, Vec<u32>),
+    /// As `Interpret`, and say what the program reads too.
+    InterpretObserved(u64, Vec<u32>),
+    /// As `Run`, and say what the image reads too.
+    RunObserved(Kind, u64, Vec<u32>),
     /// Compile the program and list its image.
     Asm(Kind),
     /// Compile the program and write its image as Intel HEX.

@@ -1,12 +1,13 @@
 -- What the program answers for a text.
 use Rattle.std.specs.Prelude.{ℕ, ◌≡◌, true, List, []}
 use Rattle.cc_ast.specs.Tree.{Source}
-use Rattle.cc_c_semantics.specs.Meaning.{source_behavior}
+use Rattle.cc_c_semantics.specs.Meaning.{source_behavior, observed_behavior}
 use Rattle.cc_c_semantics.specs.declared.mode.Mode.{Mode}
 use Rattle.cc_c_semantics.specs.declared.mode.Mode.TheVariants as mode
-use Rattle.cc_meaning.specs.Erase.{outcome_tree}
+use Rattle.cc_meaning.specs.Erase.{outcome_tree, stop_tree}
 use Rattle.cc_rv32.specs.declared.image.Image.{Image}
 use Rattle.cc_rv32.specs.Listing.{listing}
+use Rattle.cc_rv32.specs.Machine.{observed_machine}
 use Rattle.cc_answers.specs.Run.{IsRunOf}
 use Rattle.cc_hex.specs.Contents.{Holds, Says}
 use Rattle.cc_hex.specs.Layout.{image_text}
@@ -18,12 +19,13 @@ use Rattle.cc_findings.specs.Measured.{Measures}
 use Rattle.cc_runs.specs.Count.{IsCounted}
 use Rattle.cc_safe.specs.Safe.{IsSafe}
 use Rattle.cc_steps.specs.Count.{IsStepCount}
+use Rattle.cc_steps.specs.Observed.{IsExchanged}
 use Rattle.cc_task.specs.declared.task.Kind.{Kind}
 use Rattle.cc_task.specs.declared.task.Kind.TheVariants.{Plain, Checked}
 use Rattle.cc_task.specs.declared.task.Task.{Task}
-use Rattle.cc_task.specs.declared.task.Task.TheVariants.{Check, Interpret, Run, InterpretCounted, RunCounted, Asm, Image as ImageTask, Size, SizedImage as SizedImageTask, Safe}
+use Rattle.cc_task.specs.declared.task.Task.TheVariants.{Check, Interpret, Run, InterpretCounted, RunCounted, InterpretObserved, RunObserved, Asm, Image as ImageTask, Size, SizedImage as SizedImageTask, Safe}
 use Rattle.cc_tasks.specs.declared.answer.Answer.{Answer}
-use Rattle.cc_tasks.specs.declared.answer.Answer.TheVariants.{Accepted, Ran, Executed, RanCounted, ExecutedCounted, Listed, Image as InHex, Sized as Measured, SizedImage, Judged}
+use Rattle.cc_tasks.specs.declared.answer.Answer.TheVariants.{Accepted, Ran, Executed, RanCounted, ExecutedCounted, RanObserved, ExecutedObserved, Listed, Image as InHex, Sized as Measured, SizedImage, Judged}
 use Rattle.cc_tasks.specs.declared.fault.Fault.{Fault}
 use Rattle.cc_tasks.specs.declared.fault.Fault.TheVariants.{Text, Meaning, Piece, Link, UnknownFunction, OutOfMemory, Read, Write}
 
@@ -63,6 +65,20 @@ IsRanCounted steps words text answer = ⊥
 abbrev pub IsExecutedCounted : Mode → (steps : ℕ) → (words text : List ℕ) → Answer → Type 0
 IsExecutedCounted m steps words text (ExecutedCounted done) = (image : Image) × Agree text image × AgreeIn m text image × IsCounted image true steps words done
 IsExecutedCounted m steps words text answer = ⊥
+
+-- what `interpret --reads` answers: the words that the program reads and writes, in their order, and how it ends
+abbrev pub IsRanObserved : (steps : ℕ) → (words text : List ℕ) → Answer → Type 0
+IsRanObserved steps words text (RanObserved done) =
+    (p : ProgramOf text) × (stop_tree done.stop ≡ (observed_behavior p.program words steps).stop)
+    × IsExchanged (observed_behavior p.program words steps).output words done.exchanges.items
+IsRanObserved steps words text answer = ⊥
+
+-- what `run --reads` answers: the words that an image of the text in the mode reads and writes, in their order, and how its run ends
+abbrev pub IsExecutedObserved : Mode → (steps : ℕ) → (words text : List ℕ) → Answer → Type 0
+IsExecutedObserved m steps words text (ExecutedObserved done) =
+    (image : Image) × Agree text image × AgreeIn m text image × (done.outcome ≡ (observed_machine image words steps).outcome)
+    × IsExchanged (observed_machine image words steps).output words done.exchanges.items
+IsExecutedObserved m steps words text answer = ⊥
 
 -- what `asm` answers: the listing of an image of the text in the mode
 abbrev pub IsListed : Mode → (text : List ℕ) → Answer → Type 0
@@ -104,6 +120,8 @@ Answers (Interpret steps words) text answer = IsRan steps words.items text answe
 Answers (Run kind steps words) text answer = IsExecuted (mode_of kind) steps words.items text answer
 Answers (InterpretCounted steps words) text answer = IsRanCounted steps words.items text answer
 Answers (RunCounted kind steps words) text answer = IsExecutedCounted (mode_of kind) steps words.items text answer
+Answers (InterpretObserved steps words) text answer = IsRanObserved steps words.items text answer
+Answers (RunObserved kind steps words) text answer = IsExecutedObserved (mode_of kind) steps words.items text answer
 Answers (Asm kind) text answer = IsListed (mode_of kind) text answer
 Answers (ImageTask kind) text answer = IsImage (mode_of kind) text answer
 Answers (Size kind) text answer = IsMeasured (mode_of kind) text answer
@@ -139,6 +157,8 @@ IsRefused (Interpret steps words) text fault = HasNoProgram text fault
 IsRefused (Run kind steps words) text fault = HasNoImage (mode_of kind) text fault
 IsRefused (InterpretCounted steps words) text fault = HasNoProgram text fault
 IsRefused (RunCounted kind steps words) text fault = HasNoImage (mode_of kind) text fault
+IsRefused (InterpretObserved steps words) text fault = HasNoProgram text fault
+IsRefused (RunObserved kind steps words) text fault = HasNoImage (mode_of kind) text fault
 IsRefused (Asm kind) text fault = HasNoImage (mode_of kind) text fault
 IsRefused (ImageTask kind) text fault = HasNoImage (mode_of kind) text fault
 IsRefused (Size kind) text fault = HasNoImage (mode_of kind) text fault

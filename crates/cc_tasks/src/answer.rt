@@ -9,6 +9,7 @@ ghost use Rattle.cc_tasks.specs.Answer.{IsAccepted, IsRan, IsExecuted, IsListed,
 
 use super::counting::{executed_counted, ran_counted};
 use super::fault::Fault;
+use super::observing::{executed_observed, ran_observed};
 use cc_answers::{ImageRun, run_image};
 use cc_findings::{Measure, Unsure, judge, measured};
 use cc_hex::image::write;
@@ -16,7 +17,7 @@ use cc_link::{BuildFault, CompiledUnit, Mode, compile_in, typed_unit};
 use cc_meaning::{Outcome, interpret};
 use cc_rv32::listing::list;
 use cc_size::size_in;
-use cc_steps::{CountedOutcome, CountedRun};
+use cc_steps::{CountedOutcome, CountedRun, ObservedOutcome, ObservedRun};
 use cc_task::{Kind, Task};
 use std::alloc::Global;
 
@@ -33,6 +34,10 @@ pub enum Answer {
     RanCounted(CountedOutcome),
     /// What the program's image has written, how its run ended, and in how many instructions.
     ExecutedCounted(CountedRun),
+    /// What the program reads and writes, and how it ends.
+    RanObserved(ObservedOutcome),
+    /// What the program's image has read and written, and how its run ended.
+    ExecutedObserved(ObservedRun),
     /// The listing of the program's image.
     Listed(Vec<u8>),
     /// The program's image as Intel HEX.
@@ -228,6 +233,12 @@ pub fn answer_for(alloc: Global, task: &Task, text: &[u8]) -> Result<Answer, Fau
         Task::InterpretCounted(steps, words) => ran_counted(alloc, text, words.as_slice(), *steps),
         Task::RunCounted(kind, steps, words) => {
             executed_counted(alloc, mode_of(*kind), text, words.as_slice(), *steps)
+        }
+        Task::InterpretObserved(steps, words) => {
+            ran_observed(alloc, text, words.as_slice(), *steps)
+        }
+        Task::RunObserved(kind, steps, words) => {
+            executed_observed(alloc, mode_of(*kind), text, words.as_slice(), *steps)
         }
         Task::Asm(kind) => listed(alloc, mode_of(*kind), text),
         Task::Image(kind) => in_hex(alloc, mode_of(*kind), text),

@@ -121,13 +121,16 @@ pub fn explanation_of_program(alloc: Global, text: &[u8]) -> Explanation {
 /// runs out.
 pub fn explanation_of_wrong(alloc: Global, task: &Task, text: &[u8], cause: Cause) -> Explanation {
     match task {
-        Task::Interpret(steps, words) | Task::InterpretCounted(steps, words) => {
+        Task::Interpret(steps, words)
+        | Task::InterpretCounted(steps, words)
+        | Task::InterpretObserved(steps, words) => {
             let told = of_wrong_run(alloc, text, words.as_slice(), *steps, cause);
             Explanation::wrong(alloc, told)
         }
         Task::Check
         | Task::Run(_, _, _)
         | Task::RunCounted(_, _, _)
+        | Task::RunObserved(_, _, _)
         | Task::Asm(_)
         | Task::Image(_)
         | Task::Size(_)
@@ -174,9 +177,9 @@ fn stopping_of(
 // whether it has stopped; otherwise it is the warnings of the text. The program is interpreted to find that out.
 fn explanation_of_going(alloc: Global, task: &Task, text: &[u8], written: usize) -> Explanation {
     let (steps, words) = match task {
-        Task::Run(Kind::Checked, steps, words) | Task::RunCounted(Kind::Checked, steps, words) => {
-            (*steps, words.as_slice())
-        }
+        Task::Run(Kind::Checked, steps, words)
+        | Task::RunCounted(Kind::Checked, steps, words)
+        | Task::RunObserved(Kind::Checked, steps, words) => (*steps, words.as_slice()),
         _ => return explanation_of_program(alloc, text),
     };
     let Some(Stopping { cause, halt }) = stopping_of(alloc, text, words, steps, written) else {

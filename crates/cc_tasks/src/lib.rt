@@ -1,9 +1,9 @@
 //! The work of the program: a task, done over any reader and writer.
 //!
-//! `source` reads the text, `answer` computes the answer to a task for a text, `counting` adds a count to it, `work` does a task,
-//! `stages` shows a text's functions at each stage of the compiler, `texts` does both for several texts that are joined to one,
-//! `part` takes a part of a unit out of a library, `fault` has every refusal with its line, `explain` and `unknown` have what
-//! else a person reads. `cc_task` says which tasks there are, the crates of the language say what a text means, and `cc_answers`
+//! `source` reads the text, `answer` computes the answer to a task for a text, `counting` adds a count to it, `observing` says
+//! what was read, `work` does a task, `stages` shows a text's functions at each stage of the compiler, `texts` does both for
+//! several texts that are joined to one, `part` takes a part of a unit out of a library, `fault` has every refusal with its line,
+//! `explain` and `unknown` have what else a person reads. `cc_task` says which tasks there are, the crates of the language say what a text means, and `cc_answers`
 //! says how answers and faults are written. The main exports are `answer_for`, `carry_out`, `perform`, `perform_and_explain`, the
 //! same for stages, `part_in`, `take_out`, their types, and the definitions that the contracts name (`specs/`).
 #![tactic(auto)]
@@ -12,6 +12,7 @@ mod answer;
 mod counting;
 mod explain;
 mod fault;
+mod observing;
 mod part;
 mod source;
 mod stages;

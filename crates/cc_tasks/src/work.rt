@@ -5,7 +5,7 @@ ghost use Rattle.std.specs.Io.KnownBytes.{Appends};
 ghost use Rattle.cc_task.specs.declared.task.Task.{Task};
 ghost use Rattle.cc_sources.specs.Reading.{IsTextOf};
 ghost use Rattle.cc_findings.specs.Written.{measure_text};
-ghost use Rattle.cc_tasks.specs.Written.{answer_status, answer_text, counted_outcome_text, outcome_text, steps_text, stop_text, IsPerformed, Writes};
+ghost use Rattle.cc_tasks.specs.Written.{answer_status, answer_text, counted_outcome_text, observed_outcome_text, observed_run_text, outcome_text, steps_text, stop_text, IsPerformed, Writes};
 ghost use Rattle.cc_tasks.specs.internal.Working.{Flushes, HasNoAnswer, IsDoneFor, RefusesBy, TellsOf, is_told, matter_status, status_of, written_of};
 
 use super::answer::{Answer, answer_for};
@@ -14,12 +14,14 @@ use super::explain::{
 };
 use super::fault::Fault;
 use super::source::read_source;
-use cc_answers::{ImageRun, write_run, write_words};
+use cc_answers::{write_outcome as write_end, write_run, write_words};
 use cc_findings::{Measure, cause_name, write_judged, write_measure};
 use cc_meaning::{Outcome, Stop};
 use cc_rv32::outcome::MachineOutcome;
 use cc_sources::Origin;
-use cc_steps::{CountedOutcome, write_counted_run};
+use cc_steps::{
+    CountedOutcome, Exchange, ObservedOutcome, ObservedRun, write_counted_run, write_exchanges,
+};
 use cc_task::Task;
 use std::alloc::Global;
 use std::io::{self, Read, Write};
@@ -58,6 +60,22 @@ fn write_counted_outcome<W: Write>(done: &CountedOutcome, writer: &mut W) -> io:
     write_steps(done.steps, writer)
 }
 
+#[tactic(auto, using(cc_answers::proofs::Writing::written_on))]
+fn write_observed_outcome<W: Write>(done: &ObservedOutcome, writer: &mut W) -> io::Result<()>
+    ensures { OnOk result (Appends (W.contents writer.old) (W.contents writer.new) (observed_outcome_text done.now)) }
+{
+    write_exchanges(done.exchanges.as_slice(), writer)?;
+    write_stop(done.stop, writer)
+}
+
+#[tactic(auto, using(cc_answers::proofs::Writing::written_on))]
+fn write_observed_run<W: Write>(done: &ObservedRun, writer: &mut W) -> io::Result<()>
+    ensures { OnOk result (Appends (W.contents writer.old) (W.contents writer.new) (observed_run_text done.now)) }
+{
+    write_exchanges(done.exchanges.as_slice(), writer)?;
+    write_end(done.outcome, writer)
+}
+
 // Writes an image as Intel HEX, and then how much memory it takes.
 #[tactic(auto, using(cc_answers::proofs::Writing::written_on))]
 fn write_sized_image<W: Write>(lines: &[u8], measure: &Measure, writer: &mut W) -> io::Result<()>
@@ -77,6 +95,8 @@ pub fn write_answer<W: Write>(answer: &Answer, writer: &mut W) -> io::Result<()>
         Answer::Executed(run) => write_run(run, writer),
         Answer::RanCounted(done) => write_counted_outcome(done, writer),
         Answer::ExecutedCounted(run) => write_counted_run(run, writer),
+        Answer::RanObserved(done) => write_observed_outcome(done, writer),
+        Answer::ExecutedObserved(done) => write_observed_run(done, writer),
         Answer::Listed(lines) => writer.write_all(lines.as_slice()),
         Answer::Image(lines) => writer.write_all(lines.as_slice()),
         Answer::Sized(it) => write_measure(it, writer),
@@ -99,21 +119,29 @@ pub(crate) fn flushed<W: Write>(write: io::Result<()>, writer: &mut W) -> Result
 }
 
 // What is to be explained after a run of the interpreter.
-fn matter_of_outcome(outcome: &Outcome) -> Matter
+fn matter_of_stop(stop: Stop) -> Matter
     ensures { matter_status result ≡ 0 }
 {
-    match outcome.stop {
+    match stop {
         Stop::Wrong(cause) => Matter::Wrong(cause),
         Stop::Going | Stop::Ended(_) => Matter::Text,
     }
 }
 
-// What is to be explained after a run of an image.
-fn matter_of_run(run: &ImageRun) -> Matter
+// How many of the words were written.
+fn written(exchanges: &[Exchange]) -> usize {
+    exchanges
+        .iter()
+        .filter(|it| matches!(it, Exchange::Wrote(_)))
+        .count()
+}
+
+// What is to be explained after a run of an image that has written so many words.
+fn matter_of_run(outcome: MachineOutcome, written: usize) -> Matter
     ensures { matter_status result ≡ 0 }
 {
-    match run.outcome {
-        MachineOutcome::Going => Matter::Going(run.output.len()),
+    match outcome {
+        MachineOutcome::Going => Matter::Going(written),
         MachineOutcome::Exited(_) | MachineOutcome::Trapped => Matter::Text,
     }
 }
@@ -123,10 +151,14 @@ fn matter_of(answer: &Answer) -> Matter
     ensures { matter_status result ≡ answer_status answer.now }
 {
     match answer {
-        Answer::Ran(outcome) => matter_of_outcome(outcome),
-        Answer::RanCounted(done) => matter_of_outcome(&done.outcome),
-        Answer::Executed(run) => matter_of_run(run),
-        Answer::ExecutedCounted(done) => matter_of_run(&done.run),
+        Answer::Ran(outcome) => matter_of_stop(outcome.stop),
+        Answer::RanCounted(done) => matter_of_stop(done.outcome.stop),
+        Answer::RanObserved(done) => matter_of_stop(done.stop),
+        Answer::Executed(run) => matter_of_run(run.outcome, run.output.len()),
+        Answer::ExecutedCounted(done) => matter_of_run(done.run.outcome, done.run.output.len()),
+        Answer::ExecutedObserved(done) => {
+            matter_of_run(done.outcome, written(done.exchanges.as_slice()))
+        }
         Answer::Judged(lines) if !lines.is_empty() => Matter::Unsure,
         Answer::Accepted
         | Answer::Listed(_)

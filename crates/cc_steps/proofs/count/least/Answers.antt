@@ -1,5 +1,5 @@
 -- Bisection keeps the invariant.
-use Rattle.std.proofs.Common.{rules, arith, ◌≡◌, ◌+◌, ◌<◌, ◌≤◌, ℕ}
+use Rattle.std.proofs.Common.{rules, arith, ◌≡◌, ◌+◌, ◌≤◌}
 use Rattle.cc_ast.specs.Source.{source}
 use Rattle.cc_c_semantics.specs.Meaning.{source_behavior}
 use Rattle.cc_c_semantics.specs.Outcome as outcome
