@@ -113,7 +113,7 @@ abbrev pub CheckedFollows : Type 0
 CheckedFollows = (source : Source) (input : List ℕ) (z : ℕ → runs.Outcome ℕ)
     → runs.Follows (λ n. without_cause (checked_behavior source input n)) z → runs.Follows (λ n. without_cause (observed_behavior source input n)) z
 
--- the same if only the words are seen, and not where a run reads
+-- the same if only the words are seen, without the reads
 abbrev pub CheckedFollowsInWords : Type 0
 CheckedFollowsInWords = (source : Source) (input : List ℕ) (z : ℕ → runs.Outcome ℕ)
     → runs.Follows (λ n. without_cause (outcome.in_words (checked_behavior source input n))) z → runs.Follows (λ n. without_cause (source_behavior source input n)) z

@@ -78,7 +78,7 @@ pub(crate) static SAFE: Row = Row {
     help: "The program comes on standard input, or in files: cclib safe -f main.c -f table.c",
 };
 
-// What a run is told beside its answer.
+// What a run says beside its answer.
 #[derive(Clone, Copy)]
 enum Telling {
     Nothing,

@@ -23,11 +23,11 @@ stop_of machine.Trapped = Wrong
 abbrev pub shown : Behavior → Outcome ℕ
 shown b = record { stop = stop_of b.outcome; output = b.output }
 
--- what an image does on an input, within a number of instructions: what it writes, and where it reads
+-- what an image does on an input, within a number of instructions: its reads and writes in order
 abbrev pub image_behavior : Image → (input : List ℕ) → ℕ → Outcome ℕ
 image_behavior image input m = shown (observed_machine image input m)
 
--- what a program does on an input, within a number of steps: what it writes, and where it reads
+-- what a program does on an input, within a number of steps: its reads and writes in order
 abbrev pub program_behavior : Source → (input : List ℕ) → ℕ → Outcome ℕ
 program_behavior source input n = without_cause (observed_behavior source input n)
 
@@ -59,7 +59,7 @@ pub record AgreementIn (mode : Mode) (text : List ℕ) (image : Image) : Type 0 
 abbrev pub AgreeIn : Mode → List ℕ → Image → Type 0
 AgreeIn mode text image = ∥ AgreementIn mode text image ∥₁
 
--- ---- in words alone: it is not seen where a run reads
+-- ---- in words alone: reads are not seen
 
 -- the text and the image agree in the words that they write
 pub record WordsAgreement (text : List ℕ) (image : Image) : Type 0 where

@@ -38,7 +38,7 @@ pub fn linked_units_agree()
     unit_laws();
 }
 
-/// What agrees also agrees if only the written words are seen, and not where a run reads.
+/// What agrees also agrees if only the written words are seen, without the reads.
 pub fn agreement_in_words()
     ensures plain { AgreeInWords }
     ensures mode { AgreeInModeInWords }

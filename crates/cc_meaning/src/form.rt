@@ -1,6 +1,6 @@
 // The resolved form of a unit: one list of instructions over a stack of words, with numbers in place of names.
 //
-// The arguments of a call are the first variables of the called function, and stay where the caller left them on the stack. The
+// The arguments of a call are the first variables of the called function, and stay on the stack as the caller left them. The
 // other variables follow, and above them the words of unfinished expressions. A jump's number is how many instructions it skips
 // after itself.
 

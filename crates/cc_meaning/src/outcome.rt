@@ -106,7 +106,7 @@ impl Events {
     }
 }
 
-/// How a run stops, and where it read and what it wrote until then.
+/// How a run stops, and what it read and wrote until then, in order.
 #[derive(Drop)]
 pub struct Observed {
     pub stop: Stop,

@@ -14,7 +14,7 @@ pub data Stop (R : Type 0) : Type 0 where
   Ended : R → Stop R
   Wrong : Stop R
 
--- what a run has reached within its bound, and its output so far: what it wrote and where it read
+-- what a run has reached within its bound, and its output so far: what it wrote, and its reads, in their order
 pub record Outcome (R : Type 0) : Type 0 where
   pub stop : Stop R
   pub output : List ℕ

@@ -21,7 +21,7 @@ FollowsOn A B C R = (a : A → Outcome R) (b : B → Outcome R) (z : C → Outco
 abbrev pub FollowsOnForAll : (A B R : Type 0) → Type 0
 FollowsOnForAll A B R = (a : A → Outcome R) (b : B → Outcome R) (z : List ℕ → ℕ × ℕ → Outcome R) → Follows a b → FollowsForAll b z → FollowsForAll a z
 
--- what follows a behavior also follows it if only the words are seen, and not where a run reads
+-- what follows a behavior also follows it if only the words are seen, without the reads
 abbrev pub FollowsInWords : (B C R : Type 0) → Type 0
 FollowsInWords B C R = (a : B → Outcome R) (z : C → Outcome R) → Follows a z → Follows (λ n. in_words (a n)) (λ m. in_words (z m))
 

@@ -8,8 +8,8 @@ use Rattle.cc_meaning.specs.declared.outcome.Event.{Event}
 use Rattle.cc_meaning.specs.declared.outcome.Event.TheVariants as event
 use Rattle.cc_rv32.specs.declared.image.Image.{Image}
 use Rattle.cc_rv32.specs.declared.outcome.MachineOutcome.TheVariants.{Going}
-use Rattle.cc_rv32.specs.Machine.{State, Run, turned, machine_run, start}
-use Rattle.cc_rv32.specs.Simulation.{Simulation, run_with, shown_run, in_words, after_read, IsAfter, IsRead, Wrote, StopsToRead}
+use Rattle.cc_rv32.specs.Machine.{State, Run, turned, after_read, machine_run, start}
+use Rattle.cc_rv32.specs.Simulation.{Simulation, run_with, shown_run, in_words, IsAfter, IsRead, Wrote, StopsToRead}
 use Rattle.cc_rv32.proofs.Running.{machine_run-none, machine_run-more}
 use Rattle.cc_rv32.proofs.Chains.{none_done, chained, continued}
 use Rattle.cc_steps.specs.internal.Going.{Went}
@@ -27,10 +27,10 @@ events_wrote (w ∷ ws) = ap (λ (l : List ℕ). w ∷ l) (events_wrote ws)
 -- the words that were written since are kept
 words_kept : (before after : List Event) (old new ws : List ℕ) (n : ℕ) → new ≡ old ++ ws → n ≡ length old → after ≡ before ++ map event.Wrote (take (length new - n) (drop n new)) → events_tree after ≡ events_tree before ++ ws
 words_kept before after old new ws n e is f =
-    let behind : drop n new ≡ ws = ap (λ k. drop k new) is ∙ ap (drop (length old)) e ∙ drop-append_seam old ws in
+    let rest : drop n new ≡ ws = ap (λ k. drop k new) is ∙ ap (drop (length old)) e ∙ drop-append_seam old ws in
     let all : take (length new - n) (drop n new) ≡ drop n new = let size = length-drop n new in take_all (length new - n) (drop n new) (omega arith) in
     ap events_tree f ∙ events_append before (map event.Wrote (take (length new - n) (drop n new)))
-    ∙ ap (λ l. events_tree before ++ l) (events_wrote (take (length new - n) (drop n new)) ∙ all ∙ behind)
+    ∙ ap (λ l. events_tree before ++ l) (events_wrote (take (length new - n) (drop n new)) ∙ all ∙ rest)
 
 -- ---- up to a read
 

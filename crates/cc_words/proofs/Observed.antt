@@ -13,7 +13,7 @@ words_append [] ys = refl
 words_append (x ∷ xs) ys =
     ap (λ (l : List ℕ). if nat_lt x (2 ^ 32) then x ∷ l else l) (words_append xs ys) ∙ words_by (nat_lt x (2 ^ 32)) x (written_words xs) (written_words ys)
 
--- a word that is written is one of the words, and a read is none
+-- a word that is written is one of the words, and a read is not
 pub words_wrote : (xs : List ℕ) (w : ℕ) → w < 2 ^ 32 → written_words (xs ++ w ∷ []) ≡ written_words xs ++ w ∷ []
 words_wrote xs w lt = words_append xs (w ∷ []) ∙ ap (λ b. written_words xs ++ (if b then w ∷ [] else [])) (lt-ltb w (2 ^ 32) lt)
 

@@ -1,8 +1,8 @@
--- What a run shows: the words that it writes and the places of its reads among them, in one list. A read stands there as a number that is
--- no word.
+-- What a run shows: the words that it writes and the places of its reads among them, in one list. A read is a number there that is no
+-- word.
 use Rattle.std.specs.Prelude.{ℕ, suc, ◌^◌, nat_lt, if◌then◌else◌, List, [], ◌∷◌}
 
--- what stands in an output for a read
+-- the number in an output that is a read
 abbrev pub read_mark : ℕ
 read_mark = 2 ^ 32
 
