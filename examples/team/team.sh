@@ -35,6 +35,30 @@ declare -A source=([checksum]=checksum.c [frame]=frame.c [lamp]=lamp-longer.c [h
 
 fail() { echo "team: $1" >&2; exit 1; }
 
+# on_qemu UNIT INPUT [OPTION|FILE]..: runs UNIT.hex on qemu's core with the words of INPUT and the stack of UNIT.size; UNIT.qemu says what it did, as `run` would.
+# More files in assembly and options of the linker may follow.
+on_qemu() {
+  local unit=$1 input=$2 end stack status=0 file options=() objects=()
+  shift 2
+  # The globals' end: the image begins at 0x00010000, and has globals where it goes on beyond 0x00200000.
+  end=$((65536 + $(wc -c <"$unit.bin")))
+  [ "$end" -gt 2097152 ] || end=2097152
+  # So many bytes below 0x00800000 the image has, and none below them.
+  stack=$(sed -n 's/^stack //p' "$unit.size")
+  # shellcheck disable=SC2086
+  { printf '.data\n.globl input\n.balign 4\ninput: .word '; wc -w <<<"$input"; printf '.word %s\n' ${input:-0}; } >input.s
+  for file in "$here/start.s" "$here/qemu.s" input.s "$@"; do
+    [[ $file != --* ]] || { options+=("$file"); continue; }
+    objects+=("$(basename "$file" .s).o")
+    $tool-as -march=rv32im_zicsr -mabi=ilp32 "$file" -o "${objects[-1]}"
+  done
+  $tool-ld --no-relax -m elf32lriscv -e backed -Ttext=0x1000 -Tdata=0x2000 --defsym globals_end=$end --defsym stack_from=$((8388608 - stack)) "${options[@]}" "${objects[@]}" -o start.elf
+  timeout 60 qemu-system-riscv32 -M none -cpu rv32 -m 16M -display none -monitor none -serial none \
+    -semihosting-config enable=on,target=native,chardev=words -chardev file,id=words,path="$unit.words" \
+    -device loader,file="$unit.hex" -device loader,file=start.elf,cpu-num=0 || status=$?
+  { od -An -v -w4 -td4 "$unit.words" | tr -d ' '; echo "exited $status"; } >"$unit.qemu"
+}
+
 # put COMMAND NAME FILE: a command of a script with the text that it takes
 put() { printf '%s %s %d\n' "$1" "$2" "$(wc -c <"$here/$3")"; cat "$here/$3"; echo; }
 
@@ -60,20 +84,26 @@ for unit in checksum frame lamp heater; do
   cmp <(cut -d' ' -f2 "$unit.lst") <(head -c $((4 * lines)) "$unit.bin" | od -An -v -w4 -tx4 | tr -d ' ') || fail "the image of $unit is not its listing"
   command -v qemu-system-riscv32 >/dev/null || { echo "team: no qemu-system-riscv32 here: the image is not run on another core" >&2; continue; }
 
-  # The globals' end: the image begins at 0x00010000, and has globals where it goes on beyond 0x00200000.
-  size=$(wc -c <"$unit.bin")
-  end=$((65536 + size > 2097152 ? 65536 + size : 2097152))
-  # So many bytes below 0x00800000 the image has, and none below them.
-  stack=$(sed -n 's/^stack //p' "$unit.size")
-  # shellcheck disable=SC2086
-  { printf '.data\n.globl input\n.balign 4\ninput: .word '; wc -w <<<"${words[$unit]}"; printf '.word %s\n' ${words[$unit]}; } >input.s
-  for file in "$here/start.s" "$here/qemu.s" input.s; do $tool-as -march=rv32im_zicsr -mabi=ilp32 "$file" -o "$(basename "$file" .s).o"; done
-  $tool-ld --no-relax -m elf32lriscv -e backed -Ttext=0x1000 -Tdata=0x2000 --defsym globals_end=$end --defsym stack_from=$((8388608 - stack)) start.o qemu.o input.o -o start.elf
-  status=0
-  timeout 60 qemu-system-riscv32 -M none -cpu rv32 -m 16M -display none -monitor none -serial none \
-    -semihosting-config enable=on,target=native,chardev=words -chardev file,id=words,path="$unit.words" \
-    -device loader,file="$unit.hex" -device loader,file=start.elf,cpu-num=0 || status=$?
-  { od -An -v -w4 -td4 "$unit.words" | tr -d ' '; echo "exited $status"; } >"$unit.qemu"
+  on_qemu "$unit" "${words[$unit]}"
   cmp "$unit.said" "$unit.qemu" || fail "$unit does something else on qemu's core"
-  echo "(the same on qemu's core, with $stack bytes of stack)"
+  echo "(the same on qemu's core, with $(sed -n 's/^stack //p' "$unit.size") bytes of stack)"
 done
+
+# Requests and answers: each word that plant.c writes asks for one. The simulator gets an answer more each time, since a run that has not read to the
+# end of its input is the run on each longer one.
+echo "== plant"
+"$cclib" image --size <"$here/plant.c" >plant.lines
+sed '/^:/!d' plant.lines >plant.hex
+sed '/^:/d' plant.lines >plant.size
+answers=() tenths=200
+while "$cclib" run 100000 "${answers[@]}" <"$here/plant.c" >plant.said && [ "$(wc -l <plant.said)" -gt $((${#answers[@]} + 1)) ]; do
+  power=$(sed -n "$((${#answers[@]} + 1))p" plant.said)
+  tenths=$((tenths + ((4 * power - tenths + 200) >> 3)))
+  answers+=("$tenths")
+done
+tail -n 1 plant.said
+command -v $tool-objcopy >/dev/null && command -v qemu-system-riscv32 >/dev/null || exit 0
+$tool-objcopy -I ihex -O binary plant.hex plant.bin
+on_qemu plant "" "$here/plant.s" --wrap=write_word --wrap=read_word
+cmp plant.said plant.qemu || fail "plant does something else on qemu's core"
+echo "(each of ${#answers[@]} requests was answered on qemu's core)"
