@@ -7,7 +7,10 @@ use Rattle.cc_disk.specs.contracts.cells.Cells as Cells
 use Rattle.cc_disk.specs.contracts.cells.Cells.TheInside as cells
 use Rattle.cc_disk.specs.contracts.count.FailureCount as Count
 use Rattle.cc_disk.specs.contracts.count.FailureCount.TheInside as counts
-use Rattle.cc_disk.specs.contracts.file.FileDisk as FileDisk
+use Rattle.cc_disk.specs.contracts.file.SystemFile as SystemFile
+use Rattle.cc_disk.specs.contracts.file.SystemFileFileCalls.TheImpl as calls
+use Rattle.cc_disk.specs.contracts.over.DiskOver as DiskOver
+use Rattle.cc_disk.specs.declared.calls.FileCalls.{Ghosts as FileGhosts}
 use Rattle.cc_disk.specs.contracts.fuse.FuseDisk as FuseDisk
 use Rattle.cc_disk.specs.contracts.history.History as History
 use Rattle.cc_disk.specs.contracts.memory.MemoryDisk as MemoryDisk
@@ -22,8 +25,11 @@ count_send = view_send _ _ _ _ _ (recorded_send counts.the_field.row _ _ counts.
 cells_send : IsSend Cells.the_row
 cells_send = view_send _ _ _ _ _ (recorded_send cells.the_field.row _ _ cells.the_type.to_one (struct_send (shape cells.the_type) (search (sendable, crosses) depth 20, (search (sendable, crosses) depth 20, tt))))
 
-pub file_send : IsSend FileDisk.the_row
+pub file_send : IsSend (DiskOver.the_row SystemFile.the_row calls.ghosts)
 file_send = let c = count_send in search (sendable, crosses) depth 20 fits 10000
+
+over_send : (F : RattleType) (g : FileGhosts F.Denot) → IsSend F → IsSend (DiskOver.the_row F g)
+over_send F g s = let c = count_send in search (sendable, crosses) depth 20 fits 10000
 
 pub memory_send : IsSend MemoryDisk.the_row
 memory_send = view_send _ _ _ _ _ (recorded_send memories.the_field.row _ _ memories.the_type.to_one (struct_send (shape memories.the_type) (let c = cells_send in search (sendable, crosses) depth 20, (let c = cells_send in search (sendable, crosses) depth 20, tt))))

@@ -1,18 +1,18 @@
--- What a crash may have left, given the states that a disk had before each of its calls.
+-- What a crash may have left, given the states that a disk or a file had before each of its calls.
 use Rattle.std.specs.Prelude.{◌⊎◌, ℕ, List, [], ◌∷◌, drop}
-use Rattle.cc_disk.specs.Model.{Cell, IsImage}
+use Rattle.cc_disk.specs.Model.{Cell}
 
 -- what contracts see of a disk in memory: its cells, and the states that it had before each write and each sync
 pub record DiskState : Type 0 where
   pub cells : List Cell
   pub past : List (List Cell)
 
--- one of these states may leave this image
-abbrev pub MayHaveLeft : List (List Cell) → List ℕ → Type 0
-MayHaveLeft [] image = ⊥
-MayHaveLeft (state ∷ states) image = IsImage state image ⊎ MayHaveLeft states image
+-- one of these states may leave this image; `leaves` says what one state may leave
+abbrev pub MayHaveLeft : {S : Type 0} → (S → List ℕ → Type 0) → List S → List ℕ → Type 0
+MayHaveLeft leaves [] image = ⊥
+MayHaveLeft leaves (state ∷ states) image = leaves state image ⊎ MayHaveLeft leaves states image
 
 -- The state now, or one before a call since the t-th, may leave this image. During a write, the range that it writes already
 -- counts as written; during a sync, nothing counts as settled yet. So this covers every moment.
-abbrev pub LeftSince : List Cell → List (List Cell) → ℕ → List ℕ → Type 0
-LeftSince now past t image = IsImage now image ⊎ MayHaveLeft (drop t past) image
+abbrev pub LeftSince : {S : Type 0} → (S → List ℕ → Type 0) → S → List S → ℕ → List ℕ → Type 0
+LeftSince leaves now past t image = leaves now image ⊎ MayHaveLeft leaves (drop t past) image

@@ -2,7 +2,8 @@
 // are in two vectors, so that a read, a write or a sync copies or fills whole ranges.
 
 ghost use Rattle.std.specs.Prelude.{◌≡◌, ◌+◌, ◌≤◌, ◌++◌, false, length, take, drop, map, replicate, IfOk};
-ghost use Rattle.cc_disk.specs.Model.{bytes_of, left, new_cells, settled, written, synced, crashed};
+ghost use Rattle.cc_disk.specs.Model.{bytes_of, left, new_cells, settled, unsettled, written, synced, crashed};
+ghost use Rattle.cc_disk.specs.File.{resized};
 ghost use Rattle.cc_disk.specs.internal.Cells.{cells_of};
 
 use std::alloc::{AllocError, Global};
@@ -35,6 +36,28 @@ impl Cells {
         Ok(Cells {
             bytes: vec![in alloc; 0u8; size]?,
             settled: vec![in alloc; true; size]?,
+        })
+    }
+
+    /// Returns cells of these bytes, all settled. `AllocError` if memory runs out.
+    pub fn of_bytes(alloc: Global, bytes: &[u8]) -> Result<Cells, AllocError>
+        ensures cells { IfOk result (λ cells. cells ≡ map settled bytes.now) }
+    {
+        Ok(Cells {
+            bytes: Vec::from_slice(alloc, bytes)?,
+            settled: vec![in alloc; true; bytes.len()]?,
+        })
+    }
+
+    /// Returns cells of the same bytes, cut to `size` or filled up with zeros, all unsettled. `AllocError` if memory runs out.
+    pub fn resized(&self, alloc: Global, size: usize) -> Result<Cells, AllocError>
+        ensures cells { IfOk result (λ cells. cells ≡ map unsettled (resized (bytes_of self.now) size)) }
+    {
+        let mut bytes = Vec::from_slice(alloc, &self.bytes)?;
+        bytes.resize(size, 0)?;
+        Ok(Cells {
+            bytes,
+            settled: vec![in alloc; false; size]?,
         })
     }
 

@@ -99,7 +99,7 @@ fn next_course(mode: FuseMode, ahead: Option<u64>, write: bool) -> Course
 }
 
 // How many calls still pass before the fuse blows, after one more call.
-fn one_less(ahead: Option<u64>) -> Option<u64>
+pub fn one_less(ahead: Option<u64>) -> Option<u64>
     ensures { result ≡ after_call ahead }
 {
     match ahead {

@@ -2,13 +2,18 @@
 //!
 //! - `disk`: the trait `Disk` and its fault.
 //! - `memory`: the disk in memory; `cells`: its bytes.
-//! - `file`: the disk on a file.
+//! - `calls`: the trait `FileCalls`, the calls of a file.
+//! - `over`: the disk on a file, over these calls.
+//! - `file`: the system's files, and the disk on one.
+//! - `memory_file`: the file in memory.
 //! - `fuse`: the disk that fails on purpose.
 //! - `history` and `count`: what is kept for contracts.
 //!
-//! The crate exports `Disk`, `DiskFault`, `MemoryDisk`, `FileDisk`, `FuseDisk`, `FuseMode` and `History`.
+//! The crate exports `Disk`, `DiskFault`, `MemoryDisk`, `FileDisk`, `FuseDisk`, `FuseMode` and `History`; of files `FileCalls`,
+//! `DiskOver`, `SystemFile`, `MemoryFile` and `Trouble`.
 #![tactic(auto)]
 
+mod calls;
 mod cells;
 mod count;
 mod disk;
@@ -16,9 +21,14 @@ mod file;
 mod fuse;
 mod history;
 mod memory;
+mod memory_file;
+mod over;
 
+pub use calls::FileCalls;
 pub use disk::{Disk, DiskFault};
-pub use file::FileDisk;
+pub use file::{FileDisk, SystemFile};
 pub use fuse::{FuseDisk, FuseMode};
 pub use history::History;
 pub use memory::MemoryDisk;
+pub use memory_file::{MemoryFile, Trouble};
+pub use over::DiskOver;

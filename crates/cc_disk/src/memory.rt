@@ -77,7 +77,7 @@ impl Disk for MemoryDisk {
 
     ghost moment = { λ disk. length disk.past };
 
-    ghost left_since = { λ disk t image. LeftSince disk.cells disk.past t image };
+    ghost left_since = { λ disk t image. LeftSince IsImage disk.cells disk.past t image };
 
     ghost reads = { λ old offset buffer ok after new. IsTrue ok
         × (after ≡ take (length buffer) (drop offset (bytes_of old.cells))) × (new ≡ old) };
@@ -111,8 +111,8 @@ impl Disk for MemoryDisk {
         ensures written { IsWritten (bytes_of self.old.cells) offset bytes.now (bytes_of self.new.cells) }
         ensures images { UnsettlesWithin offset (length bytes.now) (IsImage self.old.cells) (IsImage self.new.cells) }
         ensures time { Elapses (length self.old.past) (length self.new.past)
-            (LeftSince self.old.cells self.old.past)
-            (LeftSince self.new.cells self.new.past) (IsImage self.new.cells) }
+            (LeftSince IsImage self.old.cells self.old.past)
+            (LeftSince IsImage self.new.cells self.new.past) (IsImage self.new.cells) }
     {
         self.past = self.past.and(&self.cells);
         self.cells.write(offset, bytes);
@@ -128,8 +128,8 @@ impl Disk for MemoryDisk {
         ensures seen { bytes_of self.new.cells ≡ bytes_of self.old.cells }
         ensures images { AddsNone (IsImage self.old.cells) (IsImage self.new.cells) }
         ensures time { Elapses (length self.old.past) (length self.new.past)
-            (LeftSince self.old.cells self.old.past)
-            (LeftSince self.new.cells self.new.past) (IsImage self.new.cells) }
+            (LeftSince IsImage self.old.cells self.old.past)
+            (LeftSince IsImage self.new.cells self.new.past) (IsImage self.new.cells) }
     {
         self.past = self.past.and(&self.cells);
         self.cells.settle();
@@ -146,5 +146,5 @@ impl Disk for MemoryDisk {
 
     ghost counts_now = { λ disk t image h le now. inl now };
 
-    ghost only_now = { λ disk image h left. only_now_left disk.cells disk.past image left };
+    ghost only_now = { λ disk image h left. only_now_left IsImage disk.cells disk.past image left };
 }

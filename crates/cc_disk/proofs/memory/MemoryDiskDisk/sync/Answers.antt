@@ -18,4 +18,4 @@ returns-clause-images c = λ image now.
     (synced_adds_none c.self.inside.cells image (subst (λ (l : List Cell). IsImage l image) c.settle.ensures.cells now))
 
 pub returns-clause-time : goal.returns-clause-time
-returns-clause-time c = grind (arith, common_steps, elapses_one c.args.self.now.past c.args.self.now.cells c.settle.new.self)
+returns-clause-time c = grind (arith, common_steps, elapses_one IsImage c.args.self.now.past c.args.self.now.cells c.settle.new.self)

@@ -1,8 +1,0 @@
-use Rattle.std.proofs.Common.{◌-◌, ◌≤◌}
-use Rattle.cc_disk.proofs.file.put_zeros.Given as goal
-
-abbrev pub invariant-loop-done : goal.invariant-loop-done
-invariant-loop-done l = l.done ≤ l.size
-
-abbrev pub decreases-loop-done : goal.decreases-loop-done
-decreases-loop-done l = l.size - l.done
