@@ -1,6 +1,6 @@
 // The simulator: it runs an image on an input, for a number of instructions at a time.
 
-ghost use Rattle.std.specs.Prelude.{◌≡◌, ◌≢◌, ◌+◌, ◌-◌, ◌<◌, ℕ, List, Option, IfOk, IfSome, OnErr, option_map, unwrap_or, slice_get};
+ghost use Rattle.std.specs.Prelude.{◌≡◌, ◌≢◌, ◌+◌, ◌-◌, ◌<◌, ℕ, List, Option, IfOk, IfSome, OnErr, OnOk, option_map, unwrap_or, slice_get};
 ghost use Rattle.cc_rv32.specs.Machine.{Run, machine_run, machine_behavior, start};
 ghost use Rattle.cc_rv32.specs.Simulation.{shown_run, in_words, IsAfter, IsWrite, StopsToRead, Wrote};
 
@@ -47,6 +47,21 @@ impl Machine {
             Ok(simulator) => Ok(Machine { simulator }),
             Err(_) => Err(MachineFault::OutOfMemory),
         }
+    }
+
+    /// Puts the machine before the first instruction of an image, with these words as the input, as `new` does, whatever it ran before. It
+    /// clears only the stack from the lowest word on that was stored to since the last start, and the globals up to the highest one, where
+    /// `new` clears 2.25 MiB; and it decodes the code only if it has other code. Fails with 40 (OutOfMemory) if memory for these words, or
+    /// for other code, was refused; then nothing has changed.
+    pub fn restart(&mut self, image: &Image, input: &[u32]) -> Result<(), MachineFault>
+        ensures start { OnOk result (IsAfter image.now input.now 0 self.new) }
+        ensures refused { OnErr result (self.new ≡ self.old) }
+    {
+        let simulator = &mut self.simulator;
+        let Ok(()) = simulator.restart(image, input) else {
+            return Err(MachineFault::OutOfMemory);
+        };
+        Ok(())
     }
 
     /// Executes one instruction, unless the machine has exited or trapped, and returns the outcome of the run so far. Fails with 40

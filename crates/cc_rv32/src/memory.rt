@@ -1,9 +1,10 @@
 // Globals and stack as two lists of words, which a byte address reaches with one comparison each: the stack first, because most
 // loads and stores go there.
 
-ghost use Rattle.std.specs.Prelude.{◌≡◌, ◌+◌, ◌*◌, ◌<◌, ◌⊎◌, length};
+ghost use Rattle.std.specs.Prelude.{◌≡◌, ◌+◌, ◌*◌, ◌<◌, ◌⊎◌, length, min, max};
 ghost use Rattle.cc_rv32.specs.Machine.{with_part};
 ghost use Rattle.cc_rv32.specs.internal.Lowered.{word_in, part_in, whole_in, with_word_in, with_part_in, with_whole_in, stored_flat};
+ghost use Rattle.cc_rv32.specs.internal.Marks.{IsClear};
 
 use crate::execute::Next;
 use crate::map::GLOBALS_FROM;
@@ -15,6 +16,37 @@ pub(crate) const GLOBALS_WORDS: usize = 65_536;
 pub(crate) const STACK_FROM: u32 = 0x0060_0000;
 
 pub(crate) const STACK_WORDS: usize = 524_288;
+
+/// Which words may differ from 0: those of the stack from `stack` on, and those of the globals before `globals`. Each store keeps
+/// this so, and a restart clears only these.
+#[derive(Clone, Copy)]
+pub(crate) struct Marks {
+    pub(crate) stack: usize,
+    pub(crate) globals: usize,
+}
+
+impl Marks {
+    /// A word of the stack was stored to.
+    #[inline(always)]
+    fn reach_stack(&mut self, index: usize)
+        ensures { self.new ≡ record self.old { stack = min self.old.stack index } }
+    {
+        if index < self.stack {
+            self.stack = index;
+        }
+    }
+
+    /// A word of the globals was stored to.
+    #[inline(always)]
+    fn reach_globals(&mut self, index: usize)
+        requires { index < 65536 }
+        ensures { self.new ≡ record self.old { globals = max self.old.globals (index + 1) } }
+    {
+        if index >= self.globals {
+            self.globals = index + 1;
+        }
+    }
+}
 
 /// The word that has the byte at this address.
 #[inline(always)]
@@ -74,19 +106,29 @@ pub(crate) fn load_byte(globals: &[u32], stack: &[u32], address: u32) -> Option<
 
 /// Writes the word that has the byte at this address; traps if no memory is there.
 #[inline(always)]
-fn set_word(globals: &mut [u32], stack: &mut [u32], address: u32, word: u32) -> Next
+fn set_word(
+    globals: &mut [u32],
+    stack: &mut [u32],
+    marks: &mut Marks,
+    address: u32,
+    word: u32,
+) -> Next
     requires globals { length globals.old ≡ 65536 }
     requires stack { length stack.old ≡ 524288 }
-    ensures { (result, globals.new, stack.new) ≡ stored_flat (with_word_in globals.old stack.old address word) globals.old stack.old }
+    requires clear { IsClear marks.old globals.old stack.old }
+    ensures effect { (result, globals.new, stack.new) ≡ stored_flat (with_word_in globals.old stack.old address word) globals.old stack.old }
+    ensures clear { IsClear marks.new globals.new stack.new }
 {
     let index = (address.wrapping_sub(STACK_FROM) >> 2) as usize;
     if index < STACK_WORDS {
         stack[index] = word;
+        marks.reach_stack(index);
         return Next::Follows;
     }
     let index = (address.wrapping_sub(GLOBALS_FROM) >> 2) as usize;
     if index < GLOBALS_WORDS {
         globals[index] = word;
+        marks.reach_globals(index);
         return Next::Follows;
     }
     Next::Trap
@@ -94,23 +136,39 @@ fn set_word(globals: &mut [u32], stack: &mut [u32], address: u32, word: u32) -> 
 
 /// Writes the word at an address that is a multiple of 4; traps at any other address.
 #[inline(always)]
-pub(crate) fn store_word(globals: &mut [u32], stack: &mut [u32], address: u32, word: u32) -> Next
+pub(crate) fn store_word(
+    globals: &mut [u32],
+    stack: &mut [u32],
+    marks: &mut Marks,
+    address: u32,
+    word: u32,
+) -> Next
     requires globals { length globals.old ≡ 65536 }
     requires stack { length stack.old ≡ 524288 }
-    ensures { (result, globals.new, stack.new) ≡ stored_flat (with_whole_in globals.old stack.old address word) globals.old stack.old }
+    requires clear { IsClear marks.old globals.old stack.old }
+    ensures effect { (result, globals.new, stack.new) ≡ stored_flat (with_whole_in globals.old stack.old address word) globals.old stack.old }
+    ensures clear { IsClear marks.new globals.new stack.new }
 {
     if address % 4 != 0 {
         return Next::Trap;
     }
-    set_word(globals, stack, address, word)
+    set_word(globals, stack, marks, address, word)
 }
 
 /// Writes the low half of the word at an even address; traps at any other address.
 #[inline(always)]
-pub(crate) fn store_half(globals: &mut [u32], stack: &mut [u32], address: u32, half: u32) -> Next
+pub(crate) fn store_half(
+    globals: &mut [u32],
+    stack: &mut [u32],
+    marks: &mut Marks,
+    address: u32,
+    half: u32,
+) -> Next
     requires globals { length globals.old ≡ 65536 }
     requires stack { length stack.old ≡ 524288 }
-    ensures { (result, globals.new, stack.new) ≡ stored_flat (with_part_in 2 globals.old stack.old address half) globals.old stack.old }
+    requires clear { IsClear marks.old globals.old stack.old }
+    ensures effect { (result, globals.new, stack.new) ≡ stored_flat (with_part_in 2 globals.old stack.old address half) globals.old stack.old }
+    ensures clear { IsClear marks.new globals.new stack.new }
 {
     if address % 2 != 0 {
         return Next::Trap;
@@ -119,21 +177,29 @@ pub(crate) fn store_half(globals: &mut [u32], stack: &mut [u32], address: u32, h
         return Next::Trap;
     };
     let new = with_half(old, address % 4, half);
-    set_word(globals, stack, address, new)
+    set_word(globals, stack, marks, address, new)
 }
 
 /// Writes the low byte of the word at an address.
 #[inline(always)]
-pub(crate) fn store_byte(globals: &mut [u32], stack: &mut [u32], address: u32, byte: u32) -> Next
+pub(crate) fn store_byte(
+    globals: &mut [u32],
+    stack: &mut [u32],
+    marks: &mut Marks,
+    address: u32,
+    byte: u32,
+) -> Next
     requires globals { length globals.old ≡ 65536 }
     requires stack { length stack.old ≡ 524288 }
-    ensures { (result, globals.new, stack.new) ≡ stored_flat (with_part_in 1 globals.old stack.old address byte) globals.old stack.old }
+    requires clear { IsClear marks.old globals.old stack.old }
+    ensures effect { (result, globals.new, stack.new) ≡ stored_flat (with_part_in 1 globals.old stack.old address byte) globals.old stack.old }
+    ensures clear { IsClear marks.new globals.new stack.new }
 {
     let Some(old) = word(globals, stack, address) else {
         return Next::Trap;
     };
     let new = with_byte(old, address % 4, byte);
-    set_word(globals, stack, address, new)
+    set_word(globals, stack, marks, address, new)
 }
 
 #[inline(always)]
