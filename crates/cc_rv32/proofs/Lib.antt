@@ -27,8 +27,14 @@ pub mod Chains
 pub mod Advancing
 -- a list of words followed by zeros
 pub mod Padding
+-- the run with more input
+pub mod Feeding
+-- runs that read no further than their input
+pub mod Within
 -- a machine some instructions after an image's start
 pub mod After
+-- a machine on a run whose input is fed
+pub mod On
 -- one instruction after a run of flat operations
 pub mod Turning
 -- the hexadecimal digits of a word

@@ -1,13 +1,14 @@
 // The simulator: it runs an image on an input, for a number of instructions at a time.
 
-ghost use Rattle.std.specs.Prelude.{◌≡◌, ◌≢◌, ◌+◌, ◌-◌, ◌<◌, ℕ, List, Option, IfOk, IfSome, OnErr, OnOk, option_map, unwrap_or, slice_get};
-ghost use Rattle.cc_rv32.specs.Machine.{Run, machine_run, machine_behavior, start};
-ghost use Rattle.cc_rv32.specs.Simulation.{shown_run, in_words, IsAfter, IsWrite, StopsToRead, Wrote};
+ghost use Rattle.std.specs.Prelude.{◌≡◌, ◌≢◌, ◌+◌, ◌-◌, ◌<◌, ◌≤◌, ◌++◌, ℕ, [], List, length, Option, IfOk, IfSome, OnErr, OnOk, option_map, unwrap_or, slice_get};
+ghost use Rattle.cc_words.specs.Observed.{reads_in};
+ghost use Rattle.cc_rv32.specs.Machine.{Run, machine_run, machine_behavior, observed_machine, start};
+ghost use Rattle.cc_rv32.specs.Simulation.{Simulation, shown_run, in_words, IsAfter, IsOn, IsWrite, StopsToRead, WentWithin, Wrote};
 
 use crate::fault::MachineFault;
 use crate::image::Image;
 use crate::outcome::MachineOutcome;
-use crate::simulator::{Simulator, run_for, run_to_read};
+use crate::simulator::{Simulator, run_for, run_to_read, run_to_wait};
 use std::alloc::Global;
 use std::marker::Model;
 
@@ -42,6 +43,7 @@ impl Machine {
     /// the 2.25 MiB of globals and stack, was refused.
     pub fn new(alloc: Global, image: &Image, input: &[u32]) -> Result<Self, MachineFault>
         ensures start { IfOk result (λ m. IsAfter image.now input.now 0 m) }
+        ensures on { IfOk result (λ m. IsOn image.now input.now [] 0 m) }
     {
         match Simulator::new(alloc, image, input) {
             Ok(simulator) => Ok(Machine { simulator }),
@@ -55,6 +57,7 @@ impl Machine {
     /// for other code, was refused; then nothing has changed.
     pub fn restart(&mut self, image: &Image, input: &[u32]) -> Result<(), MachineFault>
         ensures start { OnOk result (IsAfter image.now input.now 0 self.new) }
+        ensures on { OnOk result (IsOn image.now input.now [] 0 self.new) }
         ensures refused { OnErr result (self.new ≡ self.old) }
     {
         let simulator = &mut self.simulator;
@@ -112,6 +115,51 @@ impl Machine {
         Ok(left)
     }
 
+    /// Executes this many instructions, or fewer if the machine exits or traps, but stops before an instruction that reads when no word of
+    /// the input is left: it waits for words, which `feed` appends. Returns how many instructions are left then, at least 1, and otherwise
+    /// `None`. Fails with 40 (OutOfMemory) only if an instruction writes a word and the output could not grow; then the instructions before
+    /// that one have been executed.
+    pub fn run_to_wait(&mut self, steps: u64) -> Result<Option<u64>, MachineFault>
+        ensures code { self.new.code ≡ self.old.code }
+        ensures went { IfOk result (λ left. WentWithin self.old.code (steps - unwrap_or left 0) self.old self.new) }
+        ensures waits { IfOk result (λ left. IfSome left (λ n. StopsToRead steps n self.new × (self.new.input ≡ []))) }
+        ensures on { IfOk result (λ left. (image : Image) (input given : List ℕ) (done : ℕ) → IsOn image input given done self.old
+            → IsOn image input given (done + (steps - unwrap_or left 0)) self.new) }
+        ensures refused { OnErr result ((k : ℕ) × (k < steps) × WentWithin self.old.code k self.old self.new × IsWrite self.new.code (shown_run self.new)) }
+    {
+        let simulator = &mut self.simulator;
+        let Ok(left) = run_to_wait(simulator, steps) else {
+            return Err(MachineFault::OutOfMemory);
+        };
+        Ok(left)
+    }
+
+    /// Appends words to the input, and lets go of those that were read. The run so far is, instruction for instruction, the run on all of the
+    /// input together. Fails with 40 (OutOfMemory) if memory for the words was refused; then nothing has changed.
+    pub fn feed(&mut self, words: &[u32]) -> Result<(), MachineFault>
+        ensures fed { OnOk result (self.new ≡ record self.old { input = self.old.input ++ words.now }) }
+        ensures on { OnOk result ((image : Image) (input given : List ℕ) (done : ℕ) → IsOn image input given done self.old
+            → IsOn image (input ++ words.now) given done self.new) }
+        ensures refused { OnErr result (self.new ≡ self.old) }
+    {
+        let simulator = &mut self.simulator;
+        let Ok(()) = simulator.feed(words) else {
+            return Err(MachineFault::OutOfMemory);
+        };
+        Ok(())
+    }
+
+    /// Gives up the words that the program has written so far; the next ones are written from here on. Takes no memory, and keeps what it
+    /// has for them.
+    pub fn clear_output(&mut self)
+        ensures cleared { self.new ≡ record self.old { output = [] } }
+        ensures on { (image : Image) (input given : List ℕ) (done : ℕ) → IsOn image input given done self.old
+            → IsOn image input (given ++ self.old.output) done self.new }
+    {
+        let simulator = &mut self.simulator;
+        simulator.clear_output();
+    }
+
     /// The next word of the input, if one is left. Takes no memory.
     pub fn next_word(&self) -> Option<u32>
         ensures { result ≡ slice_get self.now.input 0 }
@@ -136,6 +184,21 @@ impl Machine {
         self.simulator.output.as_slice()
     }
 }
+
+/// Shows what a machine whose input is fed has done: the words that it gave up and those that it has are what the image writes on all of the
+/// input together, within as many instructions.
+pub fn fed_runs_are_runs()
+    ensures output { (image : Image) (input given : List ℕ) (done : ℕ) (m : Simulation) → IsOn image input given done m
+        → given ++ m.output ≡ (machine_behavior image input done).output }
+    ensures outcome { (image : Image) (input given : List ℕ) (done : ℕ) (m : Simulation) → IsOn image input given done m
+        → m.outcome ≡ (machine_behavior image input done).outcome }
+{}
+
+/// Shows that a run that has not read past its input is the run on every longer input.
+pub fn runs_ignore_more()
+    ensures { (image : Image) (input more : List ℕ) (n : ℕ) → reads_in (observed_machine image input n).output ≤ length input
+        → observed_machine image (input ++ more) n ≡ observed_machine image input n }
+{}
 
 /// Shows that to run `m` and then `n` instructions is the same as to run `m + n`, for any code and any run so far; and that a run that has
 /// exited or trapped does not change, nor does its state.
