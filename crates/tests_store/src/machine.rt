@@ -8,3 +8,4 @@ mod hex;
 mod limits;
 mod listing;
 mod runs;
+mod turns;
