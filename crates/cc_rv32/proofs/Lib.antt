@@ -35,6 +35,8 @@ pub mod Within
 pub mod After
 -- a machine on a run whose input is fed
 pub mod On
+-- a machine that has stopped in place
+pub mod InPlace
 -- one instruction after a run of flat operations
 pub mod Turning
 -- the hexadecimal digits of a word

@@ -8,6 +8,8 @@ pub mod Machine
 pub mod Shown
 -- A machine as contracts see it, and the run that it represents.
 pub mod Simulation
+-- When a machine has stopped in place.
+pub mod InPlace
 -- The listing of an image.
 pub mod Listing
 -- Worked runs and lines, each by computation. No contract depends on them.

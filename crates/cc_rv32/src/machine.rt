@@ -1,8 +1,9 @@
 // The simulator: it runs an image on an input, for a number of instructions at a time.
 
-ghost use Rattle.std.specs.Prelude.{◌≡◌, ◌≢◌, ◌+◌, ◌-◌, ◌<◌, ◌≤◌, ◌++◌, ℕ, [], List, length, Option, IfOk, IfSome, OnErr, OnOk, option_map, unwrap_or, slice_get};
+ghost use Rattle.std.specs.Prelude.{◌≡◌, ◌≢◌, ◌+◌, ◌-◌, ◌<◌, ◌≤◌, ◌++◌, ℕ, [], List, length, Option, IfOk, IfSome, OnErr, OnOk, true, option_map, unwrap_or, slice_get};
 ghost use Rattle.cc_words.specs.Observed.{reads_in};
 ghost use Rattle.cc_rv32.specs.Machine.{Run, machine_run, machine_behavior, observed_machine, start};
+ghost use Rattle.cc_rv32.specs.InPlace.{is_in_place};
 ghost use Rattle.cc_rv32.specs.Simulation.{Simulation, shown_run, in_words, IsAfter, IsOn, IsWrite, StopsToRead, WentWithin, Wrote};
 
 use crate::fault::MachineFault;
@@ -52,8 +53,8 @@ impl Machine {
     }
 
     /// Puts the machine before the first instruction of an image, with these words as the input, as `new` does, whatever it ran before. It
-    /// clears only the stack from the lowest word on that was stored to since the last start, and the globals up to the highest one, where
-    /// `new` clears 2.25 MiB; and it decodes the code only if it has other code. Fails with 40 (OutOfMemory) if memory for these words, or
+    /// clears not all of the 2.25 MiB, but the stack from the lowest word on that was stored to since the last start, and the globals up to
+    /// the highest one; and it decodes the code only if it has other code. Fails with 40 (OutOfMemory) if memory for these words, or
     /// for other code, was refused; then nothing has changed.
     pub fn restart(&mut self, image: &Image, input: &[u32]) -> Result<(), MachineFault>
         ensures start { OnOk result (IsAfter image.now input.now 0 self.new) }
@@ -173,6 +174,18 @@ impl Machine {
         ensures { result ≡ self.now.outcome }
     {
         self.simulator.outcome
+    }
+
+    /// Whether the run has stopped in place: it is going, and its next instruction is a jump to itself. So it writes nothing more and does not
+    /// end, however many instructions it is given. Takes no memory.
+    pub fn is_in_place(&self) -> bool
+        ensures exact { result ≡ is_in_place self.now }
+        ensures for_ever { result ≡ true → (image : Image) (input : List ℕ) (done more : ℕ) → IsAfter image input done self.now
+            → machine_behavior image input (done + more) ≡ record { outcome = MachineOutcome.Going; output = self.now.output } }
+        ensures fed { result ≡ true → (image : Image) (input given : List ℕ) (done more : ℕ) → IsOn image input given done self.now
+            → machine_behavior image input (done + more) ≡ record { outcome = MachineOutcome.Going; output = given ++ self.now.output } }
+    {
+        self.simulator.is_in_place()
     }
 
     /// The words that the program has written so far, oldest first. Takes no memory.

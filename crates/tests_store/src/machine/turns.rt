@@ -1,5 +1,5 @@
-// A machine that is used again: it restarts with another image, and it is fed while its program waits for words. The words of the programs
-// are those of clang's assembler.
+// A machine that is used again: it restarts with another image, it is fed while its program waits for words, and it has stopped in place.
+// The words of the programs are those of clang's assembler.
 
 use crate::machine::listing::image_of;
 use cc_rv32::machine::Machine;
@@ -21,6 +21,9 @@ static LOADS: [u32; 11] = [
 
 // addi x17,x0,2; ecall; addi x17,x0,1; ecall; jal x0,-16
 static ECHO: [u32; 5] = [0x00200893, 0x00000073, 0x00100893, 0x00000073, 0xff1ff06f];
+
+// addi x0,x0,0; jal x0,0
+static LOOP: [u32; 2] = [0x00000013, 0x0000006f];
 
 // A machine with this program loaded, and no input.
 fn machine(alloc: Global, code: &[u32]) -> Result<Machine, Fail> {
@@ -88,4 +91,21 @@ fn goes_on_when_fed(rt: HostRuntime) -> Result<(), Fail> {
     let found = echoes_in_turns(&mut machine);
     drop(machine);
     passes_for(found, "a machine that is fed")
+}
+
+// Whether a machine is in place from the jump to itself on, and not before.
+fn ends_in_place(machine: &mut Machine) -> Result<bool, Fail> {
+    let begins = machine.is_in_place();
+    machine.run(1)?;
+    let at_jump = machine.is_in_place();
+    machine.run(1000)?;
+    Ok(!begins && at_jump && machine.is_in_place())
+}
+
+#[test]
+fn says_that_it_is_in_place(rt: HostRuntime) -> Result<(), Fail> {
+    let mut machine = machine(rt.alloc(), &LOOP)?;
+    let found = ends_in_place(&mut machine);
+    drop(machine);
+    passes_for(found, "a machine that jumps in place")
 }
