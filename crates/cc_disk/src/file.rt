@@ -6,10 +6,11 @@ ghost use Rattle.std.proofs.lemmas.Bool.{false≢true};
 use crate::calls::FileCalls;
 use crate::disk::DiskFault;
 use crate::over::{self, DiskOver};
-use std::fs::{self, OpenOptions, Permissions};
+use std::fs::{self, OpenOptions, Permissions, TryLockError};
 use std::io::{self, Seek, SeekFrom};
 use std::os::unix::fs::{FileExt, FileTypeExt, OpenOptionsExt, PermissionsExt};
 use std::path::Path;
+use thiserror::Error;
 
 /// The access rights of a new file: for its owner only.
 const OWN: u32 = 0o600;
@@ -24,8 +25,28 @@ pub struct SystemFile {
 
 /// A disk on a file of the operating system, whose length is the disk's size, or on a block device.
 ///
-/// While this value exists, no other process has the file open as a disk.
+/// While this value exists, no other process has the file open as a disk, except that several may have it open for reading alone.
 pub type FileDisk = DiskOver<SystemFile>;
+
+/// Why a file is not opened as a disk. The file is unchanged. `FileDisk::open` answers 35 (DeviceFailed) in each case.
+#[derive(Clone, Copy, Debug, Error)]
+pub enum OpenFault {
+    /// Another process has the file open as a disk.
+    #[error("InUse")]
+    InUse,
+    /// The system refused.
+    #[error("DeviceFailed")]
+    DeviceFailed,
+}
+
+// What a disk is opened for.
+#[derive(Clone, Copy)]
+enum Access {
+    // For reading alone, beside others that read.
+    Read,
+    // For reads and writes, alone.
+    Change,
+}
 
 // Written by hand, so that crates that use this one rely on this proof and need not prove again how each part is dropped.
 impl Drop for SystemFile {
@@ -144,7 +165,7 @@ impl DiskOver<SystemFile> {
         ensures sound { IfOk result (λ disk. disk.lost ≡ false) }
     {
         // The lock comes first: a file that is in use is not changed.
-        lock(&file)?;
+        lock(&file, Access::Change)?;
         match device_size(&file)? {
             None => {
                 let disk = DiskOver::create_on(SystemFile { file }, size)?;
@@ -168,16 +189,77 @@ impl DiskOver<SystemFile> {
         ensures failed { IfOk result (λ disk. disk.failed ≡ 0) }
         ensures sound { IfOk result (λ disk. disk.lost ≡ false) }
     {
-        let file = OpenOptions::new().read(true).write(true).open(rt, path)?;
-        lock(&file)?;
+        Ok(FileDisk::open_to_change(rt, path)?)
+    }
+
+    /// Opens the disk as `open` does, and says why it is not opened: InUse if another process has the file open as a disk, for
+    /// reading alone or not, and DeviceFailed if the system refuses.
+    pub fn open_to_change(rt: &HostRuntime, path: &str) -> Result<FileDisk, OpenFault>
+        ensures failed { IfOk result (λ disk. disk.failed ≡ 0) }
+        ensures sound { IfOk result (λ disk. disk.lost ≡ false) }
+    {
+        FileDisk::open_as(rt, path, Access::Change)
+    }
+
+    /// Opens the disk as `open` does, but for reading alone: the system refuses each write (35). A sync puts on the medium what other
+    /// processes have written. Other processes may have it open for reading at the same time.
+    ///
+    /// Fails with InUse if another process has the file open as a disk, and not for reading alone; with DeviceFailed if the system
+    /// refuses.
+    pub fn open_to_read(rt: &HostRuntime, path: &str) -> Result<FileDisk, OpenFault>
+        ensures failed { IfOk result (λ disk. disk.failed ≡ 0) }
+        ensures sound { IfOk result (λ disk. disk.lost ≡ false) }
+    {
+        FileDisk::open_as(rt, path, Access::Read)
+    }
+
+    // Opens the disk on an existing file.
+    fn open_as(rt: &HostRuntime, path: &str, access: Access) -> Result<FileDisk, OpenFault>
+        ensures failed { IfOk result (λ disk. disk.failed ≡ 0) }
+        ensures sound { IfOk result (λ disk. disk.lost ≡ false) }
+    {
+        let mut how = OpenOptions::new();
+        how.read(true).write(matches!(access, Access::Change));
+        let file = how.open(rt, path)?;
+        lock(&file, access)?;
         match device_size(&file)? {
-            None => DiskOver::open_on(SystemFile { file }),
+            None => Ok(DiskOver::open_on(SystemFile { file })?),
             Some(bytes) => {
                 let mut device = SystemFile { file };
                 device.sync_all()?;
                 Ok(DiskOver::on(device, bytes))
             }
         }
+    }
+}
+
+impl From<io::Error> for OpenFault {
+    ghost use Rattle.cc_disk.specs.declared.file.OpenFault.TheVariants.{DeviceFailed};
+
+    ghost from_gives = { λ _ fault. fault ≡ DeviceFailed };
+
+    fn from(_: io::Error) -> OpenFault {
+        OpenFault::DeviceFailed
+    }
+}
+
+impl From<DiskFault> for OpenFault {
+    ghost use Rattle.cc_disk.specs.declared.file.OpenFault.TheVariants.{DeviceFailed};
+
+    ghost from_gives = { λ _ fault. fault ≡ DeviceFailed };
+
+    fn from(_: DiskFault) -> OpenFault {
+        OpenFault::DeviceFailed
+    }
+}
+
+impl From<OpenFault> for DiskFault {
+    ghost use Rattle.cc_disk.specs.declared.disk.DiskFault.TheVariants.{DeviceFailed};
+
+    ghost from_gives = { λ _ fault. fault ≡ DeviceFailed };
+
+    fn from(_: OpenFault) -> DiskFault {
+        DiskFault::DeviceFailed
     }
 }
 
@@ -191,12 +273,17 @@ impl From<io::Error> for DiskFault {
     }
 }
 
-// Locks the file for this process.
-fn lock(file: &fs::File) -> Result<(), DiskFault> {
-    if file.try_lock().is_err() {
-        return Err(DiskFault::DeviceFailed);
+// Locks the file for this process, or finds that another process has it. Never waits.
+fn lock(file: &fs::File, access: Access) -> Result<(), OpenFault> {
+    let answer = match access {
+        Access::Read => file.try_lock_shared(),
+        Access::Change => file.try_lock(),
+    };
+    match answer {
+        Ok(()) => Ok(()),
+        Err(TryLockError::WouldBlock) => Err(OpenFault::InUse),
+        Err(TryLockError::Error(_)) => Err(OpenFault::DeviceFailed),
     }
-    Ok(())
 }
 
 // How many bytes a block device has, or `None` for a file that is not a block device. The system reports the length of a device

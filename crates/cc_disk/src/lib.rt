@@ -10,7 +10,7 @@
 //! - `history` and `count`: what is kept for contracts.
 //!
 //! The crate exports `Disk`, `DiskFault`, `MemoryDisk`, `FileDisk`, `FuseDisk`, `FuseMode` and `History`; of files `FileCalls`,
-//! `DiskOver`, `SystemFile`, `MemoryFile` and `Trouble`.
+//! `DiskOver`, `SystemFile`, `OpenFault`, `MemoryFile` and `Trouble`.
 #![tactic(auto)]
 
 mod calls;
@@ -26,7 +26,7 @@ mod over;
 
 pub use calls::FileCalls;
 pub use disk::{Disk, DiskFault};
-pub use file::{FileDisk, SystemFile};
+pub use file::{FileDisk, OpenFault, SystemFile};
 pub use fuse::{FuseDisk, FuseMode};
 pub use history::History;
 pub use memory::MemoryDisk;
