@@ -1,15 +1,19 @@
 // The command `library`: a session over a file.
 
-ghost use Rattle.std.specs.Prelude.{◌≤◌};
+ghost use Rattle.std.specs.Prelude.{◌≡◌, ◌≢◌, ◌≤◌, true, false};
+ghost use Rattle.cc_session.specs.Session.{SessionEnds};
+ghost use Rattle.cc_session.specs.declared.end.SessionEnd.TheVariants.{Finished};
+ghost use Rattle.cc_tasks.specs.Answer.{mode_of};
 
 use cc_answers::{Persons, greet};
 use cc_command_line::Session;
+use cc_disk::Disk;
 use cc_filing::{buffers, disk_of_session, no_disk, tell_wide_disk};
 use cc_session::{Gate, SessionEnd, session_and_explain};
 use cc_tasks::mode_of;
 use cc_watch::{AnswerProgress, FaultWatch};
 use std::alloc::AllocError;
-use std::io::{Input, IsTerminal, Write};
+use std::io::{Input, IsTerminal, Read, Write};
 use std::rt::Clock;
 use std::sync::Wait;
 use std::thread::Threads;
@@ -32,11 +36,64 @@ impl<R: Eprint> Gate for Progress<R> {
     }
 }
 
-fn status(end: SessionEnd) -> u8 {
+// The status of a session that ended this way; `is_refused` says that a fault among the answers counts, and that there was one.
+fn status(end: SessionEnd, is_refused: bool) -> u8
+    ensures well { end ≡ Finished → is_refused ≡ false → result ≡ 0 }
+    ensures fault { end ≢ Finished → result ≡ 1 }
+    ensures refused { is_refused ≡ true → result ≡ 1 }
+    ensures bound { result ≤ 1 }
+{
     match end {
-        SessionEnd::Finished => 0,
+        SessionEnd::Finished => u8::from(is_refused),
         SessionEnd::Fault(_) => 1,
     }
+}
+
+// How a session went.
+#[derive(Drop)]
+struct Ran<D: Drop> {
+    disk: Option<D>,
+    end: SessionEnd,
+    status: u8,
+}
+
+// Runs a script over a library's disk, as the session that was asked for: in its mode, with its workers, and with its status.
+fn run_session<H, R: Read, W, C, S, E: Write, D: Disk + Drop, G>(
+    rt: &H,
+    asked: &Session,
+    reader: &mut R,
+    writer: &mut AnswerProgress<FaultWatch<W>, C, S>,
+    told: &mut E,
+    disk: D,
+    gate: G,
+) -> Ran<D>
+where
+    H: AllocGlobal + Threads + Wait + Copy + Send + 'static,
+    W: Write + Drop,
+    C: Clock + Drop,
+    S: Write + Drop,
+    G: Gate + Drop + Send + Sync + 'static,
+    requires some { 1 ≤ asked.now.workers }
+    requires few { asked.now.workers ≤ 8 }
+    ensures answers { SessionEnds (mode_of asked.now.kind) D.Disk (R.remaining reader.old) (W.contents writer.old.writer.writer) (W.contents writer.new.writer.writer) disk result.disk result.end }
+    ensures well { result.end ≡ Finished → asked.now.is_strict ≡ false → result.status ≡ 0 }
+    ensures fault { result.end ≢ Finished → result.status ≡ 1 }
+    ensures bound { result.status ≤ 1 }
+{
+    let (disk, end) = session_and_explain(
+        rt,
+        rt.alloc(),
+        mode_of(asked.kind),
+        reader,
+        writer,
+        told,
+        disk,
+        asked.workers,
+        gate,
+    );
+    let is_refused = asked.is_strict && writer.writer().has_fault();
+    let status = status(end, is_refused);
+    Ran { disk, end, status }
 }
 
 // Whether nobody sees the answers as they come.
@@ -82,19 +139,21 @@ where
         let _ = greet(&mut told);
     }
     let progress = Progress { rt: *rt, is_shown };
-    let (disk, end) = session_and_explain(
+    let ran = run_session(
         rt,
-        rt.alloc(),
-        mode_of(asked.kind),
+        asked,
         &mut reader,
         &mut writer,
         &mut told,
         disk,
-        asked.workers,
         progress,
     );
+    let Ran {
+        disk,
+        end: _,
+        status,
+    } = ran;
     drop(disk);
     writer.clear();
-    let is_refused = asked.is_strict && writer.writer().has_fault();
-    Ok(if is_refused { 1 } else { status(end) })
+    Ok(status)
 }

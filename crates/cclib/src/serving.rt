@@ -2,16 +2,20 @@
 
 ghost use Rattle.std.specs.Fmt.{decimal};
 ghost use Rattle.std.specs.Io.KnownBytes.{Appends};
-ghost use Rattle.std.specs.Prelude.{◌≡◌, ◌≢◌, ◌≤◌, ◌++◌, ◌∷◌, [], true, false, IfOk, OnOk, codes};
+ghost use Rattle.std.specs.Prelude.{◌≡◌, ◌≢◌, ◌≤◌, ◌++◌, ◌∷◌, [], ℕ, All, map, true, false, IfOk, OnOk, codes};
+ghost use Rattle.cc_session.specs.Generations.{ServesOn};
+ghost use Rattle.cc_session.specs.Spooling.{ServingEnds, given_by};
+ghost use Rattle.cc_tasks.specs.Answer.{mode_of};
 ghost use Rattle.cc_session.specs.declared.end.SessionEnd.TheVariants.{Finished};
 
 use cc_command_line::Server;
+use cc_disk::Disk;
 use cc_filing::{
     AnswerCounts, Keeper, NoFolder, Taken, buffers, count_all, no_folder, spools_of, take_to_serve,
     tell_generation, tell_kept,
 };
 use cc_session::{BOUNDS, Generation, GenerationEnd, Served, SessionEnd, Steward, serve_on};
-use cc_spool::{FolderLayout, FolderSpool};
+use cc_spool::{FolderLayout, FolderSpool, Spool};
 use cc_tasks::mode_of;
 use std::alloc::{AllocError, Global};
 use std::io::{self, Print, Write};
@@ -116,6 +120,44 @@ fn begin(
     Ok((spools, Serving { keeper }))
 }
 
+// Serves spools over a library's disk, as the server that was asked for: in its mode and with its workers.
+fn serve_asked<H, S, W, E, D, T>(
+    rt: &H,
+    asked: &Server,
+    spools: Vec<S>,
+    writer: &mut W,
+    told: &mut E,
+    disk: D,
+    steward: &mut T,
+) -> Served<D, S>
+where
+    H: AllocGlobal + Threads + Wait + Clock + Copy + Send + Sync + 'static,
+    S: Spool + Send + Drop,
+    W: Write,
+    E: Write,
+    D: Disk + Send + Drop,
+    T: Steward,
+    requires some { 1 ≤ asked.now.workers }
+    requires few { asked.now.workers ≤ 8 }
+    ensures generations { (earlier : ℕ) × ServesOn (ServingEnds (mode_of asked.now.kind) D.Disk) earlier
+        (map (given_by S.taken S.ended) spools.items) (map (given_by S.taken S.ended) result.spools.items) disk result.disk result.end }
+    ensures over { result.end ≡ Finished → All S.over result.spools.items }
+    ensures still { result.end ≡ Finished → W.contents writer.new ≡ W.contents writer.old }
+{
+    serve_on(
+        rt,
+        rt.alloc(),
+        mode_of(asked.kind),
+        spools,
+        writer,
+        told,
+        disk,
+        asked.workers,
+        BOUNDS,
+        steward,
+    )
+}
+
 // Counts the answers and reports how serving ended. The result is the status.
 fn finish<W: Write, E: Write>(
     layout: &FolderLayout,
@@ -170,16 +212,13 @@ where
         drop(held);
         return Err(AllocError);
     };
-    let Served { disk, spools, end } = serve_on(
+    let Served { disk, spools, end } = serve_asked(
         rt,
-        alloc,
-        mode_of(asked.kind),
+        asked,
         spools,
         &mut writer,
         &mut told,
         disk,
-        asked.workers,
-        BOUNDS,
         &mut serving,
     );
     drop(disk);
