@@ -1,8 +1,8 @@
 -- What a task writes for what it reads.
-use Rattle.std.proofs.Common.{◌≡◌, ◌∙◌, ℕ, Bool, List, [], take, Option, Some, None, Result, Ok, Err, OnOk, refl, sym, ap, subst, inl, inr}
+use Rattle.std.proofs.Common.{◌≡◌, ◌∙◌, ◌++◌, append-nil, ℕ, Bool, List, [], take, Option, Some, None, Result, Ok, Err, OnOk, refl, sym, ap, subst, inl, inr}
 use Rattle.std.specs.Prelude.{◌⊎◌, IfOk, IfErr, IsErrAnd}
 use Rattle.std.proofs.KnownBytes.{Appends-kept}
-use Rattle.std.specs.Io.KnownBytes.{Appends, Keeps}
+use Rattle.std.specs.Io.KnownBytes.{Appends, Keeps, append_known}
 use Rattle.cc_sources.specs.Reading.{IsTextOf}
 use Rattle.cc_task.specs.declared.task.Task.{Task}
 use Rattle.cc_task.specs.declared.task.Task.TheVariants as asked
@@ -86,6 +86,42 @@ done (Ok matter) task input a b c text read same told =
 done (Err fault) task input a b c text read same (inl unwritten) = inl unwritten
 done (Err fault) task input a b c text read same (inr by) =
     inr (inr (record { text = text; read = read; refused = by.0; written = subst (λ (o : Option (List ℕ)). Appends o c (fault_text text fault)) same by.1 }))
+
+-- if a writer's bytes followed by those of an empty buffer are what was known, the writer's bytes alone are
+kept_alone : (a b : Option (List ℕ)) (bs : List ℕ) → Keeps a (append_known b bs) → bs ≡ [] → Keeps a b
+kept_alone None b bs same none = tt
+kept_alone (Some x) None bs same none = absurd same
+kept_alone (Some x) (Some y) bs same none = sym (append-nil y) ∙ ap (λ (l : List ℕ). y ++ l) (sym none) ∙ same
+
+-- what was done over a buffer is done over its writer, once the buffer is empty
+pub emptied : (answer : Result Matter Fault) (task : Task) (input a b c : Option (List ℕ)) (bs : List ℕ) → Keeps b (append_known c bs) → bs ≡ [] → IsDoneFor task input a b answer → IsDoneFor task input a c answer
+emptied (Ok matter) task input a b c bs kept none it = (
+  record {
+    text = it.0.text;
+    read = it.0.read;
+    answer = it.0.answer;
+    answers = it.0.answers;
+    written = Appends-kept a b c (answer_text it.0.answer) it.0.written (kept_alone b c bs kept none);
+  },
+  it.1,
+)
+emptied (Err fault) task input a b c bs kept none (inl unwritten) = inl unwritten
+emptied (Err fault) task input a b c bs kept none (inr (inl is)) = inr (inl (is.0, Appends-kept a b c (fault_text [] Read) is.1 (kept_alone b c bs kept none)))
+emptied (Err fault) task input a b c bs kept none (inr (inr is)) = inr (inr (record {
+  text = is.text;
+  read = is.read;
+  refused = is.refused;
+  written = Appends-kept a b c (fault_text is.text fault) is.written (kept_alone b c bs kept none);
+}))
+
+-- an empty buffer adds nothing to what its writer holds
+nothing_more : (a : Option (List ℕ)) (bs : List ℕ) → bs ≡ [] → append_known a bs ≡ a
+nothing_more None bs none = refl
+nothing_more (Some x) bs none = ap Some (ap (λ (l : List ℕ). x ++ l) none ∙ append-nil x)
+
+-- what was done over a new buffer is done for what its writer held
+pub from_new : (answer : Result Matter Fault) (task : Task) (input a b : Option (List ℕ)) (bs : List ℕ) → bs ≡ [] → IsDoneFor task input (append_known a bs) b answer → IsDoneFor task input a b answer
+from_new answer task input a b bs none it = subst (λ (o : Option (List ℕ)). IsDoneFor task input o b answer) (nothing_more a bs none) it
 
 -- if a task has no answer, and its status is 1, then it was performed with that status
 of_fault : (task : Task) (input a b : Option (List ℕ)) (status : ℕ) (fault : Fault) → HasNoAnswer task input a b fault → status ≡ 1 → IsPerformed task input a b status (is_told fault)

@@ -8,11 +8,12 @@ ghost use Rattle.cc_tasks.specs.declared.fault.Fault.TheVariants.{OutOfMemory};
 
 use super::fault::Fault;
 use super::stages::{explain_stages, try_stages};
-use super::work::{Done, Performed, ended, explain, refused, status, try_perform};
+use super::work::{Done, Performed, emptied, ended, explain, refused, status, try_perform};
+use cc_answers::Telling;
 use cc_sources::{NamedText, NoText, NoTexts, Origin, join, read_texts, tell_unread};
 use cc_task::{Kind, Task};
 use std::alloc::{AllocError, Global};
-use std::io::{self, Input, Write};
+use std::io::{self, BufWriter, Input, Write};
 use std::rt::Files;
 
 // Writes that a text could not be read, and explains which one and why.
@@ -118,6 +119,31 @@ pub fn perform_texts_and_explain<H: AllocGlobal, W: Write, E: Write>(
     let origin = Origin::Texts(texts);
     explain(rt.alloc(), &task, &performed, origin, explanations);
     ended(performed)
+}
+
+/// Does a task as `perform_into` does, for the text to which `texts` are joined, and gives each place as
+/// `perform_texts_and_explain` does. The only error is that memory for the buffer is refused. Then nothing was written, and `out`
+/// is dropped.
+pub fn perform_texts_into<H: AllocGlobal, A: Write + Drop, E: Write + Drop>(
+    rt: &H,
+    task: Task,
+    texts: &[NamedText],
+    out: A,
+    explanations: &mut Telling<E>,
+) -> Result<(Done, A), AllocError>
+    ensures { IfOk result (λ it. IsPerformed task (Some (joined texts.now)) (A.contents out) (A.contents it.1) it.0.status it.0.is_written) }
+{
+    let Ok(mut buffered) = BufWriter::new(rt.alloc(), out) else {
+        drop(task);
+        return Err(AllocError);
+    };
+    let performed = try_texts(rt.alloc(), &task, texts, &mut buffered);
+    let (performed, out) = emptied(performed, buffered);
+    if !explanations.is_quiet {
+        let origin = Origin::Texts(texts);
+        explain(rt.alloc(), &task, &performed, origin, explanations);
+    }
+    Ok((ended(performed), out))
 }
 
 // Shows the functions of the text to which the texts are joined.

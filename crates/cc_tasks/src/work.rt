@@ -1,7 +1,8 @@
 // Does a task over any reader and writer.
 
-ghost use Rattle.std.specs.Prelude.{◌≡◌, ◌≤◌, ◌++◌, Bool, IfOk, IfErr, OnOk};
-ghost use Rattle.std.specs.Io.KnownBytes.{Appends};
+ghost use Rattle.std.specs.Prelude.{◌≡◌, ◌≤◌, ◌++◌, [], true, Bool, List, ℕ, Option, IfOk, IfErr, OnErr, OnOk};
+ghost use Rattle.std.specs.Io.Buffered.{writer_buffer, writer_contents};
+ghost use Rattle.std.specs.Io.KnownBytes.{Appends, Keeps};
 ghost use Rattle.cc_task.specs.declared.task.Task.{Task};
 ghost use Rattle.cc_sources.specs.Reading.{IsTextOf};
 ghost use Rattle.cc_findings.specs.Written.{measure_text};
@@ -14,7 +15,7 @@ use super::explain::{
 };
 use super::fault::Fault;
 use super::source::read_source;
-use cc_answers::{write_outcome as write_end, write_run, write_words};
+use cc_answers::{Telling, write_outcome as write_end, write_run, write_words};
 use cc_findings::{Measure, cause_name, write_judged, write_measure};
 use cc_meaning::{Outcome, Stop};
 use cc_rv32::outcome::MachineOutcome;
@@ -23,8 +24,8 @@ use cc_steps::{
     CountedOutcome, Exchange, ObservedOutcome, ObservedRun, write_counted_run, write_exchanges,
 };
 use cc_task::Task;
-use std::alloc::Global;
-use std::io::{self, Read, Write};
+use std::alloc::{AllocError, Global};
+use std::io::{self, BufWriter, Read, Write};
 
 /// Writes how a run of the interpreter stops.
 pub fn write_stop<W: Write>(stop: Stop, writer: &mut W) -> io::Result<()>
@@ -400,4 +401,63 @@ pub fn perform_and_explain<H: AllocGlobal, R: Read, W: Write, E: Write>(
     let performed = try_perform(rt.alloc(), &task, reader, writer);
     explain(rt.alloc(), &task, &performed, Origin::Input, explanations);
     ended(performed)
+}
+
+// Writes out what a buffer holds, and flushes its writer. The result is whether both succeeded.
+fn is_flushed<A: Write + Drop>(buffered: &mut BufWriter<A>) -> bool
+    ensures empty { result ≡ true → writer_buffer buffered.new ≡ [] }
+    ensures kept { Keeps (writer_contents A.contents buffered.old) (writer_contents A.contents buffered.new) }
+{
+    match buffered.flush() {
+        Ok(()) => true,
+        Err(_) => false,
+    }
+}
+
+/// Empties a buffer into its writer, and hands the writer back. If not all could be written, the task ended with 54.
+pub(crate) fn emptied<A: Write + Drop>(
+    performed: Performed,
+    mut buffered: BufWriter<A>,
+) -> (Performed, A)
+    // What was done over the buffer is done over the writer.
+    ensures { (task : Task) (input old : Option (List ℕ)) → IsDoneFor task input old (writer_contents A.contents buffered) performed.told → IsDoneFor task input old (A.contents result.1) result.0.told }
+{
+    if is_flushed(&mut buffered) {
+        let (out, nothing) = buffered.into_parts();
+        drop(nothing);
+        return (performed, out);
+    }
+    let (out, unwritten) = buffered.into_parts();
+    drop(unwritten);
+    let Performed { text, told } = performed;
+    drop(told);
+    let told = Err(Fault::Write);
+    (Performed { text, told }, out)
+}
+
+/// Does a task as `perform_and_explain` does, or as `carry_out` if explanations are left out, and writes to `out` through a
+/// buffer. At the end the buffer is empty, and `out` is handed back: what is written is in `out` itself. If a write to it or its
+/// flush fails, that is 54.
+///
+/// The only error is that memory for the buffer is refused. Then nothing was read or written, and `out` is dropped.
+pub fn perform_into<H: AllocGlobal, R: Read, A: Write + Drop, E: Write + Drop>(
+    rt: &H,
+    task: Task,
+    reader: &mut R,
+    out: A,
+    explanations: &mut Telling<E>,
+) -> Result<(Done, A), AllocError>
+    ensures performed { IfOk result (λ it. IsPerformed task (R.remaining reader.old) (A.contents out) (A.contents it.1) it.0.status it.0.is_written) }
+    ensures unread { OnErr result (reader.new ≡ reader.old) }
+{
+    let Ok(mut buffered) = BufWriter::new(rt.alloc(), out) else {
+        drop(task);
+        return Err(AllocError);
+    };
+    let performed = try_perform(rt.alloc(), &task, reader, &mut buffered);
+    let (performed, out) = emptied(performed, buffered);
+    if !explanations.is_quiet {
+        explain(rt.alloc(), &task, &performed, Origin::Input, explanations);
+    }
+    Ok((ended(performed), out))
 }

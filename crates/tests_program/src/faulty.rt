@@ -1,14 +1,17 @@
 // Readers, writers and disks that fail, and a fault that no known text has.
 
+use cc_answers::Telling;
 use cc_disk::{FuseDisk, FuseMode, MemoryDisk};
 use cc_journal::format;
 use cc_link::PieceFault;
+use cc_sources::NamedText;
 use cc_task::{Kind, Part, Task};
 use cc_tasks::{
-    Fault, PartFault, perform, perform_and_explain, perform_and_explain_stages, perform_stages,
-    take_out,
+    Fault, PartFault, perform, perform_and_explain, perform_and_explain_stages, perform_into,
+    perform_stages, perform_texts_into, take_out,
 };
-use std::alloc::Global;
+use std::alloc::{AllocError, Global};
+use std::io::{self, ErrorKind, Write};
 use std::test::Fail;
 use tests_texts::streams::{FailsBehind, Refuses};
 
@@ -49,6 +52,81 @@ fn says_that_a_write_failed<H: AllocGlobal>(rt: &H) -> bool {
 #[test]
 fn a_write_that_fails_is_told(rt: HostRuntime) {
     assert!(rt; says_that_a_write_failed(&rt));
+}
+
+// A writer that takes each byte, and fails when it is flushed.
+#[derive(Drop)]
+struct FailsLater;
+
+impl Write for FailsLater {
+    fn write(&mut self, buf: &[u8]) -> io::Result<usize> {
+        Ok(buf.len())
+    }
+
+    fn flush(&mut self) -> io::Result<()> {
+        Err(io::Error::from(ErrorKind::BrokenPipe))
+    }
+}
+
+// Explanations that are kept in memory.
+fn kept_explanations(alloc: Global) -> Telling<Vec<u8>> {
+    Telling {
+        errors: Vec::new(alloc),
+        is_quiet: false,
+    }
+}
+
+// Whether a task whose answer does not get out to its writer has status 1, and says so to a person.
+fn says_that_nothing_got_out<H: AllocGlobal, A: Write + Drop>(
+    rt: &H,
+    out: A,
+) -> Result<bool, AllocError> {
+    let mut reader = b"int main(void){}".as_slice();
+    let mut told = kept_explanations(rt.alloc());
+    let (done, out) = perform_into(rt, Task::Check, &mut reader, out, &mut told)?;
+    drop(out);
+    Ok(
+        done.status == 1
+            && !done.is_written
+            && told.errors.as_slice() == b"cclib: the answer could not be written\n".as_slice(),
+    )
+}
+
+#[test]
+fn a_flush_that_fails(rt: HostRuntime) -> Result<(), Fail> {
+    assert!(rt; says_that_nothing_got_out(&rt, FailsLater)?);
+    Ok(())
+}
+
+#[test]
+fn a_buffer_that_cannot_be_emptied(rt: HostRuntime) -> Result<(), Fail> {
+    assert!(rt; says_that_nothing_got_out(&rt, Refuses)?);
+    Ok(())
+}
+
+#[test]
+fn an_answer_that_is_in_the_writer_itself(rt: HostRuntime) -> Result<(), Fail> {
+    let mut reader = b"int main(void){}".as_slice();
+    let mut told = kept_explanations(rt.alloc());
+    let out = Vec::new(rt.alloc());
+    let (done, out) = perform_into(&rt, Task::Check, &mut reader, out, &mut told)?;
+    assert!(rt; done.status == 0 && done.is_written && out.as_slice() == b"ok\n".as_slice());
+    Ok(())
+}
+
+#[test]
+fn an_answer_to_texts_that_is_in_the_writer_itself(rt: HostRuntime) -> Result<(), Fail> {
+    let alloc = rt.alloc();
+    let mut texts = Vec::new(alloc);
+    texts.push(NamedText {
+        name: String::from_str(alloc, "a.c")?,
+        bytes: Vec::from_slice(alloc, b"int main(void){}")?,
+    })?;
+    let mut told = kept_explanations(alloc);
+    let out = Vec::new(alloc);
+    let (done, out) = perform_texts_into(&rt, Task::Check, texts.as_slice(), out, &mut told)?;
+    assert!(rt; done.status == 0 && done.is_written && out.as_slice() == b"ok\n".as_slice());
+    Ok(())
 }
 
 // An explanation that cannot be written changes neither the fault's line nor the status.
