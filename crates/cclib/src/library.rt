@@ -123,12 +123,8 @@ where
     } else {
         None
     };
-    let mut writer = AnswerProgress::new(
-        FaultWatch::new(buffered),
-        *rt,
-        screen,
-        "lines of answers",
-    );
+    let watch = FaultWatch::new(buffered);
+    let mut writer = AnswerProgress::new(watch, *rt, screen, "lines of answers");
     let disk = match disk_of_session(files, asked, persons.is_quiet, &mut told) {
         Ok(disk) => disk,
         Err(reason) => return Ok(no_disk(reason, asked.disk.as_str(), &mut writer, &mut told)),
@@ -139,7 +135,7 @@ where
         let _ = greet(&mut told);
     }
     let progress = Progress { rt: *rt, is_shown };
-    let ran = run_session(
+    let Ran { disk, status, .. } = run_session(
         rt,
         asked,
         &mut reader,
@@ -148,11 +144,6 @@ where
         disk,
         progress,
     );
-    let Ran {
-        disk,
-        end: _,
-        status,
-    } = ran;
     drop(disk);
     writer.clear();
     Ok(status)

@@ -15,16 +15,17 @@ mod texts;
 mod version;
 mod watching;
 
-ghost use Rattle.std.specs.Prelude.{IfOk};
+ghost use Rattle.std.specs.Prelude.{◌≤◌, IfOk};
 ghost use Rattle.cc_command_line.specs.Work.{IsAllowed};
+ghost use Rattle.cc_tasks.specs.Written.{IsPerformed};
 
-use cc_answers::Persons;
+use cc_answers::{Persons, Telling};
 use cc_command_line::{Invocation, NoRequest, Work, read_or_tell, tell_bytes};
 use cc_descriptors::{System, take_free};
 use cc_filing::buffers;
 use cc_submit::submit_script;
 use cc_task::{Kind, Task};
-use cc_tasks::{Fault, carry_out, perform_and_explain, perform_and_explain_stages, perform_stages};
+use cc_tasks::{Done, Fault, perform_and_explain_stages, perform_into, perform_stages};
 use in_json::do_work_in_json;
 use keeping::{look_into, take_out};
 use library::library_session;
@@ -32,7 +33,7 @@ use serving::serve_folder;
 use stack::reserve_stack;
 use std::alloc::AllocError;
 use std::fs::File;
-use std::io::{self, IsTerminal, Write};
+use std::io::{self, BufWriter, IsTerminal, Read, Write};
 use std::process::{self, ExitCode};
 use std::rt::{Clock, Env, Files};
 use std::sync::Wait;
@@ -119,6 +120,27 @@ fn read_request<R: AllocGlobal + Env + Eprint + Print>(
     }
 }
 
+// Does a task for the text that `reader` has, writes its answer to `out`, and hands this back. The only error is that memory ran
+// out before it began.
+fn do_task<H: AllocGlobal, R: Read, A: Write + Drop, E: Write + Drop>(
+    rt: &H,
+    task: Task,
+    reader: &mut R,
+    out: A,
+    errors: E,
+    is_quiet: bool,
+) -> Result<(Done, A), AllocError>
+    ensures { IfOk result (λ it. IsPerformed task (R.remaining reader.old) (A.contents out) (A.contents it.1) it.0.status it.0.is_written) }
+{
+    let Ok(errors) = BufWriter::new(rt.alloc(), errors) else {
+        drop(task);
+        drop(out);
+        return Err(AllocError);
+    };
+    let mut told = Telling { errors, is_quiet };
+    perform_into(rt, task, reader, out, &mut told)
+}
+
 // Performs a task; the only error is that memory ran out before it began.
 fn start<R: AllocGlobal + Input + Print, E: Write + Drop>(
     rt: &R,
@@ -131,16 +153,9 @@ fn start<R: AllocGlobal + Input + Print, E: Write + Drop>(
     if !names.is_empty() {
         return start_texts(rt, files, task, names, is_quiet, errors);
     }
-    let Ok((mut writer, mut told)) = buffers(rt.alloc(), io::writer(rt), errors, is_quiet) else {
-        drop(task);
-        return Err(AllocError);
-    };
-    if is_quiet {
-        let done = carry_out(rt, task, &mut rt.reader(), &mut writer);
-        return Ok(done.status);
-    }
     let mut reader = rt.reader();
-    let done = perform_and_explain(rt, task, &mut reader, &mut writer, &mut told);
+    let (done, out) = do_task(rt, task, &mut reader, io::writer(rt), errors, is_quiet)?;
+    drop(out);
     Ok(done.status)
 }
 
@@ -167,6 +182,24 @@ fn start_stages<R: AllocGlobal + Input + Print, E: Write + Drop>(
     status
 }
 
+// Shows each stage of the compilation of the text that `reader` has. The result is the status.
+fn show_stages<H: AllocGlobal, R: Read, W: Write, E: Write + Drop>(
+    rt: &H,
+    kind: Kind,
+    name: Option<&[u8]>,
+    reader: &mut R,
+    writer: &mut W,
+    told: &mut Telling<E>,
+) -> u8
+    ensures { result ≤ 1 }
+{
+    if told.is_quiet {
+        perform_stages(rt, kind, name, reader, writer)
+    } else {
+        perform_and_explain_stages(rt, kind, name, reader, writer, told)
+    }
+}
+
 // Shows each stage of the compilation of the text on standard input.
 fn start_stages_of_input<R: AllocGlobal + Input + Print, E: Write + Drop>(
     rt: &R,
@@ -177,11 +210,7 @@ fn start_stages_of_input<R: AllocGlobal + Input + Print, E: Write + Drop>(
 ) -> Result<u8, AllocError> {
     let (mut writer, mut told) = buffers(rt.alloc(), io::writer(rt), errors, is_quiet)?;
     let mut reader = rt.reader();
-    Ok(if is_quiet {
-        perform_stages(rt, kind, name, &mut reader, &mut writer)
-    } else {
-        perform_and_explain_stages(rt, kind, name, &mut reader, &mut writer, &mut told)
-    })
+    Ok(show_stages(rt, kind, name, &mut reader, &mut writer, &mut told))
 }
 
 // The status if the command line asks for no work; the only error is that memory ran out.

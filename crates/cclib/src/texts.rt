@@ -3,8 +3,8 @@
 use cc_filing::buffers;
 use cc_task::{Kind, Task};
 use cc_tasks::{
-    carry_out_texts, perform_and_explain_stages_of_texts, perform_stages_of_texts,
-    perform_texts_and_explain, read_or_refuse,
+    perform_and_explain_stages_of_texts, perform_stages_of_texts, perform_texts_into,
+    read_or_refuse,
 };
 use std::alloc::AllocError;
 use std::io::{self, Input, Print, Write};
@@ -34,12 +34,9 @@ pub fn start_texts<R: AllocGlobal + Input + Print, E: Write + Drop>(
             return Err(error);
         }
     };
-    let texts = texts.as_slice();
-    if is_quiet {
-        let done = carry_out_texts(rt, task, texts, &mut writer);
-        return Ok(done.status);
-    }
-    let done = perform_texts_and_explain(rt, task, texts, &mut writer, &mut told);
+    drop(writer);
+    let (done, out) = perform_texts_into(rt, task, texts.as_slice(), io::writer(rt), &mut told)?;
+    drop(out);
     Ok(done.status)
 }
 
