@@ -1,0 +1,3 @@
+-- Definitions that only private contracts and proofs use.
+-- the code's values
+pub mod Views
