@@ -1,8 +1,9 @@
-# The three services for the start in start.s, on a core that qemu simulates: words go out as four bytes each, the lowest first, by
+# The five functions for the start in start.s, on a core that qemu simulates: words go out as four bytes each, the lowest first, by
 # semihosting; the input is what the linker puts at `input`, a count and that many words; the stack begins at `stack_from`, an address given to the
-# linker. A board has its own in place of this file.
+# linker; there are no interrupts, unless another file has functions for them (ticks.s). A board has its own in place of this file.
 
         .globl  write_word, read_word, end_with, backed
+        .weak   start_interrupts, interrupt
 
 # Where this core begins: it takes the stack from 0x00600000 to `stack_from` away, so a load or store there traps, and goes on with the start. A
 # region of physical memory protection without rights, which is locked, so it holds for machine mode.
@@ -27,7 +28,6 @@ write_word:
         la      a1, out
         sw      a0, 0(a1)
         sw      ra, 4(a1)
-        sw      a0, 8(a1)
         li      a2, 4
 1:      li      a0, 3                   # SYS_WRITEC: one byte
         call    host
@@ -36,7 +36,6 @@ write_word:
         bnez    a2, 1b
         la      a1, out
         lw      ra, 4(a1)
-        lw      a0, 8(a1)
         ret
 
 read_word:
@@ -61,8 +60,16 @@ end_with:
         call    host
 1:      j       1b
 
+start_interrupts:
+        csrw    mie, zero
+        ret
+
+interrupt:                              # none was allowed to come
+        li      a0, -1
+        j       end_with
+
         .data
         .balign 4
-out:    .word   0, 0, 0
+out:    .word   0, 0
 place:  .word   0
 exit:   .word   0x20026, 0

@@ -2,7 +2,8 @@
 # What a firmware team does with a library of units, from the first `add` to the images for a board: examples/team/team.sh [FOLDER]
 #
 # Four units are stored, one is replaced, all are listed and audited; source and image of each are taken out, the image is read by objcopy and compared with
-# the listing, and, where qemu is there, run on a core that knows nothing of cclib, with the start of start.s and with no more stack than `size` says of the stored unit.
+# the listing, and, where qemu is there, run on a core that knows nothing of cclib, with the start of start.s and with no more stack than `size` says of the stored unit;
+# then once more while a timer interrupts it.
 # FOLDER (made, else a temporary one) has the library and the images afterwards. CCLIB names the program, where it is not ./cclib (which takes `proved`). The status is 0 where all is as it should be.
 set -euo pipefail
 here=$(CDPATH='' cd -- "$(dirname -- "$(readlink -f -- "$0")")" && pwd)
@@ -36,7 +37,8 @@ declare -A source=([checksum]=checksum.c [frame]=frame.c [lamp]=lamp-longer.c [h
 fail() { echo "team: $1" >&2; exit 1; }
 
 # on_qemu UNIT INPUT [OPTION|FILE]..: runs UNIT.hex on qemu's core with the words of INPUT and the stack of UNIT.size; UNIT.qemu says what it did, as `run` would.
-# More files in assembly and options of the linker may follow.
+# More files in assembly and options of the linker may follow. `core` has what qemu is given for the core.
+core=(-cpu rv32)
 on_qemu() {
   local unit=$1 input=$2 end stack status=0 file options=() objects=()
   shift 2
@@ -53,10 +55,19 @@ on_qemu() {
     $tool-as -march=rv32im_zicsr -mabi=ilp32 "$file" -o "${objects[-1]}"
   done
   $tool-ld --no-relax -m elf32lriscv -e backed -Ttext=0x1000 -Tdata=0x2000 --defsym globals_end=$end --defsym stack_from=$((8388608 - stack)) "${options[@]}" "${objects[@]}" -o start.elf
-  timeout 60 qemu-system-riscv32 -M none -cpu rv32 -m 16M -display none -monitor none -serial none \
+  timeout 60 qemu-system-riscv32 -M none "${core[@]}" -m 16M -display none -monitor none -serial none \
     -semihosting-config enable=on,target=native,chardev=words -chardev file,id=words,path="$unit.words" \
     -device loader,file="$unit.hex" -device loader,file=start.elf,cpu-num=0 || status=$?
   { od -An -v -w4 -td4 "$unit.words" | tr -d ' '; echo "exited $status"; } >"$unit.qemu"
+}
+
+# on_interrupted UNIT INPUT [OPTION|FILE]..: as on_qemu, while ticks.s interrupts the image. Sets `taken` to how many interrupts there were.
+on_interrupted() {
+  local core=(-cpu "rv32,pmu-num=16,sscofpmf=on" -icount "shift=0")
+  on_qemu "$@" "$here/ticks.s" --wrap=end_with
+  taken=$(tail -n 2 "$1.qemu" | head -n 1)
+  { head -n -2 "$1.qemu"; tail -n 1 "$1.qemu"; } >without
+  mv without "$1.qemu"
 }
 
 # put COMMAND NAME FILE: a command of a script with the text that it takes
@@ -87,6 +98,9 @@ for unit in checksum frame lamp heater; do
   on_qemu "$unit" "${words[$unit]}"
   cmp "$unit.said" "$unit.qemu" || fail "$unit does something else on qemu's core"
   echo "(the same on qemu's core, with $(sed -n 's/^stack //p' "$unit.size") bytes of stack)"
+  on_interrupted "$unit" "${words[$unit]}"
+  cmp "$unit.said" "$unit.qemu" || fail "$unit does something else on qemu's core when interrupts come"
+  echo "(the same with $taken interrupts)"
 done
 
 # Requests and answers: each word that plant.c writes asks for one. The simulator gets an answer more each time, since a run that has not read to the
@@ -107,3 +121,19 @@ $tool-objcopy -I ihex -O binary plant.hex plant.bin
 on_qemu plant "" "$here/plant.s" --wrap=write_word --wrap=read_word
 cmp plant.said plant.qemu || fail "plant does something else on qemu's core"
 echo "(each of ${#answers[@]} requests was answered on qemu's core)"
+on_interrupted plant "" "$here/plant.s" --wrap=write_word --wrap=read_word
+cmp plant.said plant.qemu || fail "plant does something else on qemu's core when interrupts come"
+echo "(the same with $taken interrupts)"
+
+# A longer run: each reading that the heater can get.
+echo "== heater, all readings"
+readings="1024 $(seq -s ' ' 0 1023)"
+# shellcheck disable=SC2086
+"$cclib" run 1000000 $readings <"$here/heater.c" >heater.said
+on_qemu heater "$readings"
+cmp heater.said heater.qemu || fail "heater does something else on qemu's core"
+on_interrupted heater "$readings"
+cmp heater.said heater.qemu || fail "heater does something else on qemu's core when interrupts come"
+[ "$taken" -ge 1000 ] || fail "only $taken interrupts came"
+tail -n 1 heater.said
+echo "(the same on the core of qemu, and there with $taken interrupts)"

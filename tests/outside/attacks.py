@@ -2256,7 +2256,7 @@ def team(place):
 
 
 # What qemu, objcopy, as and ld of a firmware team do, as far as team.sh sees it. Like qemu, this takes a comma for the end of an option's
-# value, and knows no option of another name; it writes the words that `run` had.
+# value, and knows no option of another name; it writes the words that `run` had, and a number of interrupts if it counts instructions.
 TOOLS = """#!/usr/bin/env python3
 import os, struct, sys
 tool, words = os.path.basename(sys.argv[0]), sys.argv[1:]
@@ -2279,6 +2279,7 @@ else:
         sys.exit("Invalid parameter")
     (path,) = [it["path"] for it in parts if "path" in it]
     *said, end = open(os.path.splitext(path)[0] + ".said").read().split("\\n")[:-1]
+    said += ["1500"] * ("-icount" in words)
     with open(path, "wb") as out:
         out.write(b"".join(struct.pack("<i", int(it)) for it in said))
     sys.exit(int(end.split()[1]))
@@ -2297,6 +2298,7 @@ def team_names(place):
         aside = tempfile.mkdtemp(dir=place.work)
         done = subprocess.run([script, name], cwd=aside, env=known, stdin=subprocess.DEVNULL, capture_output=True, text=True, timeout=100)
         is_right = done.returncode == 0 and os.listdir(aside) == [name] and done.stdout.count("(the same on qemu's core, ") == 4
+        is_right = is_right and done.stdout.count(" 1500 interrupts)") == 6
         wrong += [f"FOLDER {name!r}: status {done.returncode}, {os.listdir(aside)}, {done.stderr[-120:]!r}"] * (not is_right)
     all_must(wrong)
 
