@@ -1,0 +1,2 @@
+-- What only private contracts use.
+pub mod Head
