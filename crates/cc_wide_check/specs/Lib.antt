@@ -1,0 +1,2 @@
+-- definitions that no promise depends on
+pub mod internal
