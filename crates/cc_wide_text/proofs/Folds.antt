@@ -1,6 +1,7 @@
 -- Tokens one after another, and those before them.
 use Rattle.std.proofs.Common.{◌≡◌, ℕ, zero, suc, ◌<◌, ◌≤◌, Bool, true, false, ◌||◌, List, [], ◌∷◌, ◌++◌, length, take, drop, slice_get, Some, refl, sym, ap, ◌∙◌, arith}
-use Rattle.std.proofs.lemmas.List.{drop_all}
+use Rattle.std.specs.List.{flat_map}
+use Rattle.std.proofs.lemmas.List.{drop_all, flat_map_more}
 use Rattle.cc_tokens.specs.Token.{Lexeme}
 use Rattle.cc_wide_text.specs.Lexing.{led, is_word}
 use Rattle.cc_wide_text.specs.Macros.{occurs}
@@ -50,3 +51,6 @@ occurs_not_more (y ∷ ys) zero x name e o h =
 occurs_not_more (y ∷ ys) (suc i) x name e o h =
     let both = or_false (is_word y name) (occurs (take i ys) name) o in
     ap (λ (b : Bool). b || occurs (take (suc i) ys) name) both.0 ∙ occurs_not_more ys i x name e both.1 h
+
+pub flat_map_taken : (f : Lexeme → List ℕ) (ts : List Lexeme) (i : ℕ) (x : Lexeme) → slice_get ts i ≡ Some x → flat_map f (take (suc i) ts) ≡ flat_map f (take i ts) ++ f x
+flat_map_taken f ts i x e = ap (λ (l : List Lexeme). flat_map f l) (take_get ts i x e) ∙ sym (flat_map_more f [] (take i ts) x)

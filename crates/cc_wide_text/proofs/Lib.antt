@@ -6,3 +6,15 @@ pub mod Folds
 pub mod Meanings
 -- a text is at most one program
 pub mod Ones
+-- refusals, passed on
+pub mod Refusals
+-- what is written only grows
+pub mod Growth
+-- the numbers of enumerators, one after another
+pub mod Numbering
+-- what the stages of reading answer
+pub mod Answered
+-- units without switches
+pub mod Stays
+-- the value of an enumerator
+pub mod Values

@@ -4,7 +4,9 @@ pub mod Plain
 pub mod Lexing
 -- a text with defined names replaced
 pub mod Macros
--- a text with names of types and of enumerators replaced
+-- the numbers of enumerators
+pub mod Numbers
+-- a text with names of types replaced
 pub mod Names
 -- a text without qualifiers, and with marks for `switch`
 pub mod Marks

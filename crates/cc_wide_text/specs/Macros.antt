@@ -1,7 +1,7 @@
 -- The text without `#define` lines, each name in it that such a line defines replaced by the tokens after it there (C99 6.10.3). A
 -- name is replaced in the lines that follow its own. It is new there: no token before is this name. So it does not matter whether names in
 -- the tokens that replace a name are replaced in its line or at its use (6.10.3.4).
-use Rattle.std.specs.Prelude.{ℕ, ◌+◌, Bool, true, false, not, ◌||◌, ◌&&◌, ◌==◌, if◌then◌else◌, List, [], ◌∷◌, ◌++◌, length, Option, Some, None, unwrap_or}
+use Rattle.std.specs.Prelude.{ℕ, ◌+◌, Bool, true, false, not, ◌||◌, ◌&&◌, ◌==◌, nat_lt, if◌then◌else◌, List, [], ◌∷◌, ◌++◌, length, Option, Some, None, unwrap_or}
 use Rattle.std.specs.Str.{bytes_eq}
 use Rattle.cc_tokens.specs.declared.token.TokenKind.{TokenKind}
 use Rattle.cc_tokens.specs.declared.token.TokenKind.TheVariants as kind
@@ -62,11 +62,16 @@ name_token e before x =
 abbrev pub defines : Expansion → Expansion
 defines e = record e { meanings = e.meanings ++ record { name = e.name; body = e.body } ∷ []; expecting = Program }
 
+-- a name is replaced by at most this many bytes
+abbrev pub most_replacing : ℕ
+most_replacing = 4096
+
+abbrev pub replaces : Expansion → List ℕ → Expansion
+replaces e body = if nat_lt most_replacing (length body) then record (writes e wrong) { body = [] } else record e { body = body; expecting = Body }
+
 -- a token that replaces the name, or the end of the line
 abbrev pub body_token : Expansion → Lexeme → Expansion
-body_token e x =
-    if is_semicolon x.kind then defines e
-    else record e { body = e.body ++ replaced e.meanings x; expecting = Body }
+body_token e x = if is_semicolon x.kind then defines e else replaces e (e.body ++ replaced e.meanings x)
 
 -- after each token; white space lies between the name and what replaces it (6.10.3, paragraph 3)
 abbrev pub expanding : Expansion → List Lexeme → Lexeme → Expecting → Expansion

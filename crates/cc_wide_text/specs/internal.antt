@@ -1,3 +1,5 @@
 -- Definitions that only private contracts and proofs use.
 -- the code's values
 pub mod Views
+-- what the private functions answer
+pub mod Answers

@@ -1,6 +1,6 @@
 // What holds for texts of wide C.
 
-ghost use Rattle.cc_wide_text.specs.Program.{MarkedTreesAreOne, WideTreesAreOne};
+ghost use Rattle.cc_wide_text.specs.Program.{MarkedTreesAreOne, ProfileUnitsStay, WideTreesAreOne};
 
 use cc_syntax::trees_are_determined;
 use cc_tokens::tokens_are_determined;
@@ -13,3 +13,8 @@ pub fn wide_trees_are_one()
     tokens_are_determined();
     trees_are_determined();
 }
+
+/// Shows that a unit without switches is lowered to itself.
+pub fn profile_units_stay()
+    ensures { ProfileUnitsStay }
+{}

@@ -4,17 +4,21 @@ ghost use Rattle.std.specs.Prelude.{◌≡◌, ◌+◌, ◌++◌, ◌<◌, ◌�
 ghost use Rattle.std.specs.Option.{option_map};
 ghost use Rattle.cc_tokens.specs.Token.{lexemes};
 ghost use Rattle.cc_tokens.specs.Tokens.{AreInOrder};
+ghost use Rattle.cc_wide_text.specs.internal.Answers.{IsStage};
 ghost use Rattle.cc_wide_text.specs.internal.Views.{lexeme_of};
 ghost use Rattle.cc_wide_text.specs.Macros.{is_semicolon, occurs, end_of, expanded};
 
 use crate::plain::MACRO;
-use crate::word::{Stage, Word, is_identifier, is_word, push_spaced, word_at};
-use cc_tokens::{Punctuator, Token, TokenKind};
+use crate::word::{Stage, Word, is_identifier, is_word, push_end, push_spaced, staged, word_at};
+use cc_tokens::{MOST_BYTES, Punctuator, SyntaxFault, Token, TokenKind};
 use std::alloc::{AllocError, Global};
 use std::mem::replace;
 
 /// What is wrong, as it is written.
 pub const WRONG: &[u8] = b"# ";
+
+/// A name is replaced by at most this many bytes.
+const MOST_REPLACING: usize = 4096;
 
 /// A defined name, and the bytes that replace it.
 #[derive(Drop)]
@@ -46,7 +50,8 @@ pub struct Expander {
     pub expecting: Expecting,
 }
 
-fn is_semicolon(kind: TokenKind) -> bool
+/// Whether a token is a semicolon.
+pub fn is_semicolon(kind: TokenKind) -> bool
     ensures { result ≡ is_semicolon kind }
 {
     match kind {
@@ -58,8 +63,8 @@ fn is_semicolon(kind: TokenKind) -> bool
     }
 }
 
-// Whether one of the first n tokens is this name.
-fn occurs(text: &[u8], tokens: &[Token], n: usize, name: &[u8]) -> bool
+/// Whether one of the first n tokens is this name.
+pub fn occurs(text: &[u8], tokens: &[Token], n: usize, name: &[u8]) -> bool
     requires ordered { AreInOrder 0 tokens.now (length text.now) }
     requires within { n ≤ length tokens.now }
     ensures { result ≡ occurs (take n (lexemes text.now tokens.now)) name.now }
@@ -171,6 +176,10 @@ impl Expander {
             return self.define();
         }
         Macro::push_replaced(&mut self.body, self.macros.as_slice(), x)?;
+        if MOST_REPLACING < self.body.len() {
+            self.body.clear();
+            return self.put_wrong();
+        }
         self.expecting = Expecting::Body;
         Ok(())
     }
@@ -213,10 +222,11 @@ fn end_of(expecting: Expecting) -> &'static [u8]
     }
 }
 
-/// The text without `#define` lines, the names that they define replaced.
-pub fn expanded(alloc: Global, text: &[u8], tokens: &[Token]) -> Result<Stage, AllocError>
+/// The text without `#define` lines, the names that they define replaced. Refuses with 7 (SourceTooLarge) if it has more than 65,536
+/// bytes, and with 40 (OutOfMemory).
+pub fn expanded(alloc: Global, text: &[u8], tokens: &[Token]) -> Result<Stage, SyntaxFault>
     requires { AreInOrder 0 tokens.now (length text.now) }
-    ensures { IfOk result (λ stage. stage.text.items ≡ expanded (lexemes text.now tokens.now)) }
+    ensures { IsStage (expanded (lexemes text.now tokens.now)) result }
 {
     let mut expander = Expander {
         alloc,
@@ -229,11 +239,20 @@ pub fn expanded(alloc: Global, text: &[u8], tokens: &[Token]) -> Result<Stage, A
     let mut ends = Vec::new(alloc);
     for i in 0..tokens.len() {
         let word = word_at(text, tokens, i);
-        expander.token(text, tokens, i, &word)?;
-        ends.push(expander.written.len())?;
+        let Ok(()) = expander.token(text, tokens, i, &word) else {
+            return Err(SyntaxFault::OutOfMemory);
+        };
+        if MOST_BYTES < expander.written.len() {
+            return Err(SyntaxFault::SourceTooLarge);
+        }
+        let Ok(()) = push_end(&mut ends, expander.written.len()) else {
+            return Err(SyntaxFault::OutOfMemory);
+        };
     }
     let end = end_of(expander.expecting);
     let mut text = replace(&mut expander.written, Vec::new(alloc));
-    text.extend_from_slice(end)?;
-    Ok(Stage { text, ends })
+    match text.extend_from_slice(end) {
+        Ok(()) => staged(Stage { text, ends }),
+        Err(_) => Err(SyntaxFault::OutOfMemory),
+    }
 }

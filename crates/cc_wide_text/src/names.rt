@@ -1,25 +1,34 @@
-// Names of types and of enumerators are replaced by what they name.
+// Names of types are replaced by their types, and the enumerators are found.
 
-ghost use Rattle.std.specs.Prelude.{◌≡◌, ◌++◌, ◌<◌, false, length, map, OnOk, IfOk};
+ghost use Rattle.std.specs.Prelude.{◌≡◌, ◌++◌, ◌≤◌, if◌then◌else◌, [], ◌∷◌, length, map, OnOk, IfOk};
 ghost use Rattle.std.specs.Option.{option_map};
 ghost use Rattle.cc_tokens.specs.Token.{lexemes};
 ghost use Rattle.cc_tokens.specs.Tokens.{AreInOrder};
 ghost use Rattle.cc_wide_text.specs.Lexing.{wrong};
-ghost use Rattle.cc_wide_text.specs.internal.Views.{lexeme_of};
-ghost use Rattle.cc_wide_text.specs.Names.{sign_of_punctuator, sign_of, is_int, hexadecimal, number_bytes, enumerator_bytes, end_of, named};
+ghost use Rattle.cc_wide_text.specs.internal.Answers.{IsNamed};
+ghost use Rattle.cc_wide_text.specs.internal.Views.{enumerator as enumerator_of, lexeme_of, naming};
+ghost use Rattle.cc_wide_text.specs.Names.{sign_of_punctuator, sign_of, is_int, behind_block, next_value, end_of, start, named, enumerators};
 
+use crate::before::Before;
+use crate::macros::occurs;
 use crate::marks::one_more;
-use crate::word::{Stage, Word, is_identifier, push_spaced, word_at};
-use cc_tokens::{Keyword, Punctuator, Token, TokenKind};
+use crate::numbers::Constant;
+use crate::word::{Stage, Word, is_identifier, push_end, push_spaced, staged, word_at};
+use cc_tokens::{Keyword, Punctuator, SyntaxFault, Token, TokenKind};
 use std::alloc::{AllocError, Global};
 use std::mem::replace;
 
-/// A name, the bytes that replace it, and whether these are a type.
+/// A name of a type, and the bytes that replace it.
 #[derive(Drop)]
 pub struct Definition {
     pub name: Vec<u8>,
     pub body: Vec<u8>,
-    pub types: bool,
+}
+
+/// The tag of an enumeration.
+#[derive(Drop)]
+pub struct Tag {
+    pub name: Vec<u8>,
 }
 
 /// What comes next.
@@ -34,12 +43,24 @@ pub enum Awaiting {
     TypeEnd,
     /// A tag or a brace, after `enum`.
     EnumFirst,
-    EnumOpening,
+    /// A brace, or what follows a type, after a tag.
+    EnumTagged,
     /// An enumerator; after a comma the closing brace may come too.
     Enumerator(bool),
     Enumerated,
     EnumValue,
     EnumEnd,
+}
+
+/// What the token before was.
+#[derive(Clone, Copy)]
+pub enum After {
+    /// The end of a declaration, or nothing.
+    End,
+    /// A closing parenthesis.
+    Head,
+    /// Anything else.
+    Inside,
 }
 
 /// The punctuation of definitions.
@@ -60,15 +81,29 @@ pub enum Sign {
 pub struct Namer {
     pub alloc: Global,
     pub written: Vec<u8>,
-    pub known: Vec<Definition>,
+    pub types: Vec<Definition>,
+    pub tags: Vec<Tag>,
+    pub enumerators: Vec<Constant>,
     pub braces: usize,
-    pub fresh: bool,
+    pub block: bool,
+    pub after: After,
     pub name: Vec<u8>,
+    /// The number of the token that is the name.
+    pub token: usize,
     pub body: Vec<u8>,
-    pub base: Vec<u8>,
-    pub count: usize,
+    pub value: Vec<u8>,
+    pub last: Vec<u8>,
     pub parentheses: usize,
+    pub may: bool,
+    pub typing: bool,
     pub awaiting: Awaiting,
+}
+
+/// The text with the names of types replaced, and the enumerators.
+#[derive(Drop)]
+pub struct NamedText {
+    pub stage: Stage,
+    pub enumerators: Vec<Constant>,
 }
 
 fn sign_of_punctuator(p: Punctuator) -> Sign
@@ -105,55 +140,58 @@ fn is_int(kind: TokenKind) -> bool
     }
 }
 
-fn hexadecimal(k: usize) -> u8
-    requires { k < 16 }
-    ensures { result ≡ hexadecimal k }
-{
-    if k < 10 { 48 + k as u8 } else { 87 + k as u8 }
-}
+impl After {
+    ghost use Rattle.cc_wide_text.specs.Names.{is_end, is_head};
 
-fn push_number(written: &mut Vec<u8>, n: usize) -> Result<(), AllocError>
-    ensures { OnOk result (written.new.items ≡ written.old.items ++ number_bytes n) }
-{
-    let digits = [
-        b'0',
-        b'x',
-        hexadecimal(n / 4096 % 16),
-        hexadecimal(n / 256 % 16),
-        hexadecimal(n / 16 % 16),
-        hexadecimal(n % 16),
-        b' ',
-    ];
-    written.extend_from_slice(&digits)
-}
-
-fn enumerator_bytes(alloc: Global, base: &[u8], count: usize) -> Result<Vec<u8>, AllocError>
-    ensures { IfOk result (λ v. v.items ≡ enumerator_bytes base.now count) }
-{
-    let mut written = Vec::new(alloc);
-    if base.len() == 0 {
-        push_number(&mut written, count)?;
-        return Ok(written);
+    fn is_end(self) -> bool
+        ensures { result ≡ is_end self }
+    {
+        match self {
+            After::End => true,
+            After::Head | After::Inside => false,
+        }
     }
-    written.extend_from_slice(b"( ( signed int ) ( ")?;
-    written.extend_from_slice(base)?;
-    written.extend_from_slice(b") + ")?;
-    push_number(&mut written, count)?;
-    written.extend_from_slice(b") ")?;
-    Ok(written)
+
+    fn is_head(self) -> bool
+        ensures { result ≡ is_head self }
+    {
+        match self {
+            After::Head => true,
+            After::End | After::Inside => false,
+        }
+    }
+}
+
+fn behind_block(block: bool) -> After
+    ensures { result ≡ behind_block block }
+{
+    if block { After::End } else { After::Inside }
+}
+
+// The value of an enumerator that has none.
+fn next_value(alloc: Global, last: &[u8]) -> Result<Vec<u8>, AllocError>
+    ensures { IfOk result (λ v. v.items ≡ next_value last.now) }
+{
+    if last.len() == 0 {
+        return Vec::from_slice(alloc, b"0 ");
+    }
+    let mut value = Vec::new(alloc);
+    push_spaced(&mut value, last)?;
+    value.extend_from_slice(b"+ 1 ")?;
+    Ok(value)
 }
 
 impl Definition {
-    ghost use Rattle.cc_wide_text.specs.Names.{known_of, replaced};
+    ghost use Rattle.cc_wide_text.specs.Names.{type_of, replaced};
     ghost use Rattle.cc_wide_text.specs.internal.Views.{known};
 
-    // What is known of a name.
-    fn find<'a>(all: &'a [Definition], name: &[u8]) -> Option<&'a Definition>
-        ensures { option_map (λ d. known d.now) result ≡ known_of (map known all.now) name.now }
+    // The bytes of the type that a name has.
+    fn find<'a>(all: &'a [Definition], name: &[u8]) -> Option<&'a [u8]>
+        ensures { option_map (λ b. b.now) result ≡ type_of (map known all.now) name.now }
     {
         for one in all {
             if one.name.as_slice() == name {
-                return Some(one);
+                return Some(one.body.as_slice());
             }
         }
         None
@@ -169,7 +207,7 @@ impl Definition {
     {
         if is_identifier(x.kind) {
             match Definition::find(all, x.bytes) {
-                Some(one) => written.extend_from_slice(one.body.as_slice()),
+                Some(body) => written.extend_from_slice(body),
                 None => push_spaced(written, x.bytes),
             }
         } else {
@@ -178,16 +216,34 @@ impl Definition {
     }
 }
 
-impl Namer {
-    ghost use Rattle.cc_wide_text.specs.Names.{is_new, writes, refuses, opens, keyword_token, punctuator_token, program_token, signed_int, unsigned_int, typed, named_type, type_keyword, type_first, new_name, type_second, knows, counts, values, adds, begins_enumeration, enum_opening, enum_first, enum_close, enumerator, enumerated, value_token, enum_end, type_end, naming_token, known_of, replaced};
-    ghost use Rattle.cc_wide_text.specs.Lexing.{spaced};
-    ghost use Rattle.cc_wide_text.specs.internal.Views.{naming, known};
+impl Tag {
+    ghost use Rattle.cc_wide_text.specs.Names.{is_tag};
+    ghost use Rattle.cc_wide_text.specs.internal.Views.{tag};
 
-    fn writes(&mut self, bytes: &[u8], fresh: bool) -> Result<(), AllocError>
-        ensures { OnOk result (naming self.new ≡ writes (naming self.old) (spaced bytes.now) fresh) }
+    // Whether a name is one of the tags.
+    fn is_tag(all: &[Tag], name: &[u8]) -> bool
+        ensures { result ≡ is_tag (map tag all.now) name.now }
+    {
+        for one in all {
+            if one.name.as_slice() == name {
+                return true;
+            }
+        }
+        false
+    }
+}
+
+impl Namer {
+    ghost use Rattle.cc_wide_text.specs.Names.{is_new, writes, refuses, is_fresh, opens_type, opens_enumeration, keyword_token, opens_block, punctuator_token, program_token, signed_int, unsigned_int, typed, named_type, type_keyword, type_first, new_name, type_second, begins_enumeration, enum_opening, enum_first, uses_tag, enum_tagged, is_tag, counts, behind_enumeration, enum_close, enumerator, enumerated, adds, value_token, ends, enum_end, type_end, naming_token, type_of, replaced};
+    ghost use Rattle.cc_wide_text.specs.Lexing.{spaced};
+    ghost use Rattle.cc_wide_text.specs.internal.Views.{known, lexemes_of};
+    ghost use Rattle.cc_wide_text.specs.declared.names.After.TheVariants.{Inside};
+
+    fn writes(&mut self, bytes: &[u8], after: After) -> Result<(), AllocError>
+        ensures { OnOk result (naming self.new ≡ writes (naming self.old) (spaced bytes.now) after) }
     {
         push_spaced(&mut self.written, bytes)?;
-        self.fresh = fresh;
+        self.after = after;
         self.awaiting = Awaiting::Program;
         Ok(())
     }
@@ -196,7 +252,7 @@ impl Namer {
         ensures { OnOk result (naming self.new ≡ refuses (naming self.old)) }
     {
         self.written.extend_from_slice(b"# ")?;
-        self.fresh = false;
+        self.after = After::Inside;
         self.awaiting = Awaiting::Program;
         Ok(())
     }
@@ -208,23 +264,51 @@ impl Namer {
         Ok(())
     }
 
-    fn opens(&mut self, x: &Word<'_>, next: Awaiting) -> Result<(), AllocError>
-        ensures { OnOk result (naming self.new ≡ opens (naming self.old) (lexeme_of x.now) next) }
+    fn is_fresh(&self) -> bool
+        ensures { result ≡ is_fresh (naming self.now) }
     {
-        if self.braces == 0 && self.fresh {
-            return self.awaits(next);
+        self.braces == 0 && self.after.is_end()
+    }
+
+    fn opens_type(&mut self, x: &Word<'_>) -> Result<(), AllocError>
+        ensures { OnOk result (naming self.new ≡ opens_type (naming self.old) (lexeme_of x.now)) }
+    {
+        if self.is_fresh() {
+            return self.awaits(Awaiting::TypeFirst);
         }
-        self.writes(x.bytes, false)?;
+        self.writes(x.bytes, After::Inside)?;
         Ok(())
+    }
+
+    fn opens_enumeration(&mut self, may: bool, typing: bool)
+        ensures { naming self.new ≡ opens_enumeration (naming self.old) may typing }
+    {
+        self.may = may;
+        self.typing = typing;
+        self.awaiting = Awaiting::EnumFirst;
     }
 
     fn keyword_token(&mut self, x: &Word<'_>, k: Keyword) -> Result<(), AllocError>
         ensures { OnOk result (naming self.new ≡ keyword_token (naming self.old) (lexeme_of x.now) k) }
     {
         match k {
-            Keyword::Typedef => self.opens(x, Awaiting::TypeFirst),
-            Keyword::Enum => self.opens(x, Awaiting::EnumFirst),
-            _ => self.writes(x.bytes, false),
+            Keyword::Typedef => self.opens_type(x),
+            Keyword::Enum => {
+                let may = self.is_fresh();
+                self.opens_enumeration(may, false);
+                Ok(())
+            }
+            _ => self.writes(x.bytes, After::Inside),
+        }
+    }
+
+    fn opens_block(&self) -> bool
+        ensures { result ≡ opens_block (naming self.now) }
+    {
+        if self.braces == 0 {
+            self.after.is_head()
+        } else {
+            self.block
         }
     }
 
@@ -233,25 +317,28 @@ impl Namer {
     {
         match p {
             Punctuator::OpenBrace => {
-                self.writes(x.bytes, false)?;
+                let block = self.opens_block();
+                self.writes(x.bytes, After::Inside)?;
                 self.braces = one_more(self.braces);
+                self.block = block;
                 Ok(())
             }
             Punctuator::CloseBrace => {
-                self.writes(x.bytes, true)?;
+                self.writes(x.bytes, behind_block(self.block))?;
                 self.braces = self.braces.saturating_sub(1);
                 Ok(())
             }
-            Punctuator::Semicolon => self.writes(x.bytes, true),
-            _ => self.writes(x.bytes, false),
+            Punctuator::Semicolon => self.writes(x.bytes, After::End),
+            Punctuator::CloseParenthesis => self.writes(x.bytes, After::Head),
+            _ => self.writes(x.bytes, After::Inside),
         }
     }
 
     fn identifier_token(&mut self, x: &Word<'_>) -> Result<(), AllocError>
-        ensures { OnOk result (naming self.new ≡ writes (naming self.old) (replaced (map known self.old.known.items) (lexeme_of x.now)) false) }
+        ensures { OnOk result (naming self.new ≡ writes (naming self.old) (replaced (map known self.old.types.items) (lexeme_of x.now)) Inside) }
     {
-        Definition::push_replaced(&mut self.written, self.known.as_slice(), x)?;
-        self.fresh = false;
+        Definition::push_replaced(&mut self.written, self.types.as_slice(), x)?;
+        self.after = After::Inside;
         self.awaiting = Awaiting::Program;
         Ok(())
     }
@@ -262,7 +349,7 @@ impl Namer {
         match x.kind {
             TokenKind::Identifier => self.identifier_token(x),
             TokenKind::Keyword(k) => self.keyword_token(x, k),
-            TokenKind::Number(_, _) => self.writes(x.bytes, false),
+            TokenKind::Number(_, _) => self.writes(x.bytes, After::Inside),
             TokenKind::Punctuator(p) => self.punctuator_token(x, p),
         }
     }
@@ -276,26 +363,15 @@ impl Namer {
     }
 
     fn named_type(&mut self, name: &[u8]) -> Result<(), AllocError>
-        ensures { OnOk result (naming self.new ≡ named_type (naming self.old) (known_of (map known self.old.known.items) name.now)) }
+        ensures { OnOk result (naming self.new ≡ named_type (naming self.old) (type_of (map known self.old.types.items) name.now)) }
     {
-        let body = match Definition::find(self.known.as_slice(), name) {
-            Some(one) => {
-                if one.types {
-                    Some(Vec::from_slice(self.alloc, one.body.as_slice())?)
-                } else {
-                    None
-                }
-            }
-            None => None,
+        let body = match Definition::find(self.types.as_slice(), name) {
+            Some(body) => Vec::from_slice(self.alloc, body)?,
+            None => return self.refuses(),
         };
-        match body {
-            Some(body) => {
-                self.body = body;
-                self.awaiting = Awaiting::TypeName;
-                Ok(())
-            }
-            None => self.refuses(),
-        }
+        self.body = body;
+        self.awaiting = Awaiting::TypeName;
+        Ok(())
     }
 
     fn type_keyword(&mut self, k: Keyword) -> Result<(), AllocError>
@@ -305,6 +381,11 @@ impl Namer {
             Keyword::Int => self.typed(b"signed int ", Awaiting::TypeName),
             Keyword::Signed => self.typed(b"signed int ", Awaiting::TypeSecond),
             Keyword::Unsigned => self.typed(b"unsigned int ", Awaiting::TypeSecond),
+            Keyword::Enum => {
+                self.typed(b"signed int ", Awaiting::TypeName)?;
+                self.opens_enumeration(true, true);
+                Ok(())
+            }
             _ => self.refuses(),
         }
     }
@@ -319,17 +400,19 @@ impl Namer {
         }
     }
 
-    fn is_new(&self, x: &Word<'_>) -> bool
-        ensures { result ≡ is_new (map known self.now.known.items) (lexeme_of x.now) }
+    fn new_name(
+        &mut self,
+        before: Before<'_>,
+        x: &Word<'_>,
+        next: Awaiting,
+    ) -> Result<(), AllocError>
+        requires ordered { AreInOrder 0 before.tokens.now (length before.text.now) }
+        requires within { before.n ≤ length before.tokens.now }
+        ensures { OnOk result (naming self.new ≡ new_name (naming self.old) (lexemes_of before.entry) (lexeme_of x.now) next) }
     {
-        is_identifier(x.kind) && !Definition::find(self.known.as_slice(), x.bytes).is_some()
-    }
-
-    fn new_name(&mut self, x: &Word<'_>, next: Awaiting) -> Result<(), AllocError>
-        ensures { OnOk result (naming self.new ≡ new_name (naming self.old) (lexeme_of x.now) next) }
-    {
-        if self.is_new(x) {
+        if is_identifier(x.kind) && !occurs(before.text, before.tokens, before.n, x.bytes) {
             self.name = Vec::from_slice(self.alloc, x.bytes)?;
+            self.token = before.n;
             self.awaiting = next;
             return Ok(());
         }
@@ -337,52 +420,27 @@ impl Namer {
         Ok(())
     }
 
-    fn type_second(&mut self, x: &Word<'_>) -> Result<(), AllocError>
-        ensures { OnOk result (naming self.new ≡ type_second (naming self.old) (lexeme_of x.now)) }
+    fn type_second(&mut self, before: Before<'_>, x: &Word<'_>) -> Result<(), AllocError>
+        requires ordered { AreInOrder 0 before.tokens.now (length before.text.now) }
+        requires within { before.n ≤ length before.tokens.now }
+        ensures { OnOk result (naming self.new ≡ type_second (naming self.old) (lexemes_of before.entry) (lexeme_of x.now)) }
     {
         if is_int(x.kind) {
             return self.awaits(Awaiting::TypeName);
         }
-        self.new_name(x, Awaiting::TypeEnd)?;
+        self.new_name(before, x, Awaiting::TypeEnd)?;
         Ok(())
     }
 
-    // The name that is being defined is known.
-    fn knows(&mut self, body: Vec<u8>, types: bool, next: Awaiting) -> Result<(), AllocError>
-        ensures { OnOk result (naming self.new ≡ knows (naming self.old) body.items types next) }
+    fn begins_enumeration(&mut self) -> Result<(), AllocError>
+        ensures { OnOk result (naming self.new ≡ begins_enumeration (naming self.old)) }
     {
-        let name = Vec::from_slice(self.alloc, self.name.as_slice())?;
-        self.known.push(Definition { name, body, types })?;
-        self.fresh = true;
-        self.awaiting = next;
-        Ok(())
-    }
-
-    fn counts(&mut self, next: Awaiting) -> Result<(), AllocError>
-        ensures { OnOk result (naming self.new ≡ counts (naming self.old) next) }
-    {
-        let body = enumerator_bytes(self.alloc, self.base.as_slice(), self.count)?;
-        self.knows(body, false, next)?;
-        self.count = one_more(self.count);
-        Ok(())
-    }
-
-    fn values(&mut self, next: Awaiting) -> Result<(), AllocError>
-        ensures { OnOk result (naming self.new ≡ values (naming self.old) next) }
-    {
-        if self.body.as_slice().len() == 0 {
-            return self.refuses();
+        if self.may {
+            self.last.clear();
+            self.awaiting = Awaiting::Enumerator(true);
+            return Ok(());
         }
-        self.base = Vec::from_slice(self.alloc, self.body.as_slice())?;
-        self.count = 0;
-        self.counts(next)?;
-        Ok(())
-    }
-
-    fn adds(&mut self, x: &Word<'_>) -> Result<(), AllocError>
-        ensures { OnOk result (naming self.new ≡ adds (naming self.old) (lexeme_of x.now)) }
-    {
-        Definition::push_replaced(&mut self.body, self.known.as_slice(), x)?;
+        self.refuses()?;
         Ok(())
     }
 
@@ -390,12 +448,7 @@ impl Namer {
         ensures { OnOk result (naming self.new ≡ enum_opening (naming self.old) sign) }
     {
         match sign {
-            Sign::OpenBrace => {
-                self.base.clear();
-                self.count = 0;
-                self.awaiting = Awaiting::Enumerator(true);
-                Ok(())
-            }
+            Sign::OpenBrace => self.begins_enumeration(),
             _ => self.refuses(),
         }
     }
@@ -404,10 +457,98 @@ impl Namer {
         ensures { OnOk result (naming self.new ≡ enum_first (naming self.old) (lexeme_of x.now)) }
     {
         if is_identifier(x.kind) {
-            return self.awaits(Awaiting::EnumOpening);
+            self.name = Vec::from_slice(self.alloc, x.bytes)?;
+            self.awaiting = Awaiting::EnumTagged;
+            return Ok(());
         }
         self.enum_opening(sign_of(x.kind))?;
         Ok(())
+    }
+
+    fn uses_tag(&mut self, before: Before<'_>, x: &Word<'_>) -> Result<(), AllocError>
+        requires ordered { AreInOrder 0 before.tokens.now (length before.text.now) }
+        requires within { before.n ≤ length before.tokens.now }
+        ensures { OnOk result (naming self.new ≡ uses_tag (naming self.old) (lexemes_of before.entry) (lexeme_of x.now)) }
+    {
+        if self.typing {
+            return self.new_name(before, x, Awaiting::TypeEnd);
+        }
+        self.writes(b"signed int", After::Inside)?;
+        self.program_token(x)?;
+        Ok(())
+    }
+
+    // An enumeration with a tag, if the tag is new.
+    fn new_tag(&mut self) -> Result<(), AllocError>
+        ensures { OnOk result (naming self.new ≡ (if is_tag (naming self.old).tags (naming self.old).name then refuses (naming self.old) else begins_enumeration (record (naming self.old) { tags = (naming self.old).tags ++ (naming self.old).name ∷ [] }))) }
+    {
+        if Tag::is_tag(self.tags.as_slice(), self.name.as_slice()) {
+            return self.refuses();
+        }
+        let name = Vec::from_slice(self.alloc, self.name.as_slice())?;
+        self.tags.push(Tag { name })?;
+        self.begins_enumeration()?;
+        Ok(())
+    }
+
+    fn enum_tagged(
+        &mut self,
+        before: Before<'_>,
+        x: &Word<'_>,
+        sign: Sign,
+    ) -> Result<(), AllocError>
+        requires ordered { AreInOrder 0 before.tokens.now (length before.text.now) }
+        requires within { before.n ≤ length before.tokens.now }
+        ensures { OnOk result (naming self.new ≡ enum_tagged (naming self.old) (lexemes_of before.entry) (lexeme_of x.now) sign) }
+    {
+        match sign {
+            Sign::OpenBrace => self.new_tag(),
+            _ => {
+                if Tag::is_tag(self.tags.as_slice(), self.name.as_slice()) {
+                    self.uses_tag(before, x)
+                } else {
+                    self.refuses()
+                }
+            }
+        }
+    }
+
+    // One more enumerator is known.
+    fn counts(&mut self, value: Vec<u8>, next: Awaiting) -> Result<(), AllocError>
+        ensures { OnOk result (naming self.new ≡ counts (naming self.old) value.items next) }
+    {
+        let name = Vec::from_slice(self.alloc, self.name.as_slice())?;
+        self.last = Vec::from_slice(self.alloc, self.name.as_slice())?;
+        let token = self.token;
+        self.enumerators.push(Constant { name, value, token })?;
+        self.awaiting = next;
+        Ok(())
+    }
+
+    // An enumerator without a value.
+    fn counts_next(&mut self, next: Awaiting) -> Result<(), AllocError>
+        ensures { OnOk result (naming self.new ≡ counts (naming self.old) (next_value (naming self.old).last) next) }
+    {
+        let value = next_value(self.alloc, self.last.as_slice())?;
+        self.counts(value, next)
+    }
+
+    // An enumerator with a value.
+    fn counts_value(&mut self, next: Awaiting) -> Result<(), AllocError>
+        ensures { OnOk result (naming self.new ≡ counts (naming self.old) (naming self.old).value next) }
+    {
+        let value = Vec::from_slice(self.alloc, self.value.as_slice())?;
+        self.counts(value, next)
+    }
+
+    fn behind_enumeration(&self) -> Awaiting
+        ensures { result ≡ behind_enumeration (naming self.now) }
+    {
+        if self.typing {
+            Awaiting::TypeName
+        } else {
+            Awaiting::EnumEnd
+        }
     }
 
     fn enum_close(&mut self, sign: Sign, first: bool) -> Result<(), AllocError>
@@ -418,18 +559,26 @@ impl Namer {
                 if first {
                     self.refuses()
                 } else {
-                    self.awaits(Awaiting::EnumEnd)
+                    let next = self.behind_enumeration();
+                    self.awaits(next)
                 }
             }
             _ => self.refuses(),
         }
     }
 
-    fn enumerator(&mut self, x: &Word<'_>, first: bool) -> Result<(), AllocError>
-        ensures { OnOk result (naming self.new ≡ enumerator (naming self.old) (lexeme_of x.now) first) }
+    fn enumerator(
+        &mut self,
+        before: Before<'_>,
+        x: &Word<'_>,
+        first: bool,
+    ) -> Result<(), AllocError>
+        requires ordered { AreInOrder 0 before.tokens.now (length before.text.now) }
+        requires within { before.n ≤ length before.tokens.now }
+        ensures { OnOk result (naming self.new ≡ enumerator (naming self.old) (lexemes_of before.entry) (lexeme_of x.now) first) }
     {
         if is_identifier(x.kind) {
-            return self.new_name(x, Awaiting::Enumerated);
+            return self.new_name(before, x, Awaiting::Enumerated);
         }
         self.enum_close(sign_of(x.kind), first)?;
         Ok(())
@@ -440,15 +589,25 @@ impl Namer {
     {
         match sign {
             Sign::Assign => {
-                self.body.clear();
+                self.value.clear();
                 self.parentheses = 0;
                 self.awaiting = Awaiting::EnumValue;
                 Ok(())
             }
-            Sign::Comma => self.counts(Awaiting::Enumerator(false)),
-            Sign::CloseBrace => self.counts(Awaiting::EnumEnd),
+            Sign::Comma => self.counts_next(Awaiting::Enumerator(false)),
+            Sign::CloseBrace => {
+                let next = self.behind_enumeration();
+                self.counts_next(next)
+            }
             _ => self.refuses(),
         }
+    }
+
+    fn adds(&mut self, x: &Word<'_>) -> Result<(), AllocError>
+        ensures { OnOk result (naming self.new ≡ adds (naming self.old) (lexeme_of x.now)) }
+    {
+        Definition::push_replaced(&mut self.value, self.types.as_slice(), x)?;
+        Ok(())
     }
 
     fn value_token(&mut self, x: &Word<'_>, sign: Sign) -> Result<(), AllocError>
@@ -457,17 +616,16 @@ impl Namer {
         match sign {
             Sign::Comma => {
                 if self.parentheses == 0 {
-                    self.values(Awaiting::Enumerator(false))
-                } else {
-                    self.adds(x)
+                    return self.counts_value(Awaiting::Enumerator(false));
                 }
+                self.adds(x)
             }
             Sign::CloseBrace => {
                 if self.parentheses == 0 {
-                    self.values(Awaiting::EnumEnd)
-                } else {
-                    self.refuses()
+                    let next = self.behind_enumeration();
+                    return self.counts_value(next);
                 }
+                self.refuses()
             }
             Sign::OpenParenthesis => {
                 self.adds(x)?;
@@ -484,13 +642,19 @@ impl Namer {
         }
     }
 
+    fn ends(&mut self)
+        ensures { naming self.new ≡ ends (naming self.old) }
+    {
+        self.after = After::End;
+        self.awaiting = Awaiting::Program;
+    }
+
     fn enum_end(&mut self, sign: Sign) -> Result<(), AllocError>
         ensures { OnOk result (naming self.new ≡ enum_end (naming self.old) sign) }
     {
         match sign {
             Sign::Semicolon => {
-                self.fresh = true;
-                self.awaiting = Awaiting::Program;
+                self.ends();
                 Ok(())
             }
             _ => self.refuses(),
@@ -502,25 +666,30 @@ impl Namer {
     {
         match sign {
             Sign::Semicolon => {
+                let name = Vec::from_slice(self.alloc, self.name.as_slice())?;
                 let body = Vec::from_slice(self.alloc, self.body.as_slice())?;
-                self.knows(body, true, Awaiting::Program)
+                self.types.push(Definition { name, body })?;
+                self.ends();
+                Ok(())
             }
             _ => self.refuses(),
         }
     }
 
-    fn token(&mut self, x: &Word<'_>) -> Result<(), AllocError>
-        ensures { OnOk result (naming self.new ≡ naming_token (naming self.old) (lexeme_of x.now) self.old.awaiting) }
+    fn token(&mut self, before: Before<'_>, x: &Word<'_>) -> Result<(), AllocError>
+        requires ordered { AreInOrder 0 before.tokens.now (length before.text.now) }
+        requires within { before.n ≤ length before.tokens.now }
+        ensures { OnOk result (naming self.new ≡ naming_token (naming self.old) (lexemes_of before.entry) (lexeme_of x.now) self.old.awaiting) }
     {
         match self.awaiting {
             Awaiting::Program => self.program_token(x),
             Awaiting::TypeFirst => self.type_first(x),
-            Awaiting::TypeSecond => self.type_second(x),
-            Awaiting::TypeName => self.new_name(x, Awaiting::TypeEnd),
+            Awaiting::TypeSecond => self.type_second(before, x),
+            Awaiting::TypeName => self.new_name(before, x, Awaiting::TypeEnd),
             Awaiting::TypeEnd => self.type_end(sign_of(x.kind)),
             Awaiting::EnumFirst => self.enum_first(x),
-            Awaiting::EnumOpening => self.enum_opening(sign_of(x.kind)),
-            Awaiting::Enumerator(first) => self.enumerator(x, first),
+            Awaiting::EnumTagged => self.enum_tagged(before, x, sign_of(x.kind)),
+            Awaiting::Enumerator(first) => self.enumerator(before, x, first),
             Awaiting::Enumerated => self.enumerated(sign_of(x.kind)),
             Awaiting::EnumValue => self.value_token(x, sign_of(x.kind)),
             Awaiting::EnumEnd => self.enum_end(sign_of(x.kind)),
@@ -537,32 +706,64 @@ fn end_of(awaiting: Awaiting) -> &'static [u8]
     }
 }
 
-/// The text without `typedef` and enumerations, the names that they define replaced.
-pub fn named(alloc: Global, text: &[u8], tokens: &[Token]) -> Result<Stage, AllocError>
-    requires { AreInOrder 0 tokens.now (length text.now) }
-    ensures { IfOk result (λ stage. stage.text.items ≡ named (lexemes text.now tokens.now)) }
+fn start(alloc: Global) -> Namer
+    ensures { naming result ≡ start }
 {
-    let mut namer = Namer {
+    Namer {
         alloc,
         written: Vec::new(alloc),
-        known: Vec::new(alloc),
+        types: Vec::new(alloc),
+        tags: Vec::new(alloc),
+        enumerators: Vec::new(alloc),
         braces: 0,
-        fresh: true,
+        block: false,
+        after: After::End,
         name: Vec::new(alloc),
+        token: 0,
         body: Vec::new(alloc),
-        base: Vec::new(alloc),
-        count: 0,
+        value: Vec::new(alloc),
+        last: Vec::new(alloc),
         parentheses: 0,
+        may: false,
+        typing: false,
         awaiting: Awaiting::Program,
-    };
+    }
+}
+
+fn name_all(alloc: Global, text: &[u8], tokens: &[Token]) -> Result<NamedText, AllocError>
+    requires { AreInOrder 0 tokens.now (length text.now) }
+    ensures text { IfOk result (λ n. n.stage.text.items ≡ named (lexemes text.now tokens.now)) }
+    ensures enumerators { IfOk result (λ n. map enumerator_of n.enumerators.items ≡ enumerators (lexemes text.now tokens.now)) }
+{
+    let mut namer = start(alloc);
     let mut ends = Vec::new(alloc);
-    for i in 0..tokens.len() {
-        let word = word_at(text, tokens, i);
-        namer.token(&word)?;
-        ends.push(namer.written.len())?;
+    for n in 0..tokens.len() {
+        let word = word_at(text, tokens, n);
+        namer.token(Before { text, tokens, n }, &word)?;
+        push_end(&mut ends, namer.written.len())?;
     }
     let end = end_of(namer.awaiting);
     let mut text = replace(&mut namer.written, Vec::new(alloc));
     text.extend_from_slice(end)?;
-    Ok(Stage { text, ends })
+    let enumerators = replace(&mut namer.enumerators, Vec::new(alloc));
+    Ok(NamedText {
+        stage: Stage { text, ends },
+        enumerators,
+    })
+}
+
+/// The text without `typedef` and enumerations, the names of types replaced, and the enumerators. Refuses with 7 (SourceTooLarge)
+/// if the text has more than 65,536 bytes, and with 40 (OutOfMemory).
+pub fn named(alloc: Global, text: &[u8], tokens: &[Token]) -> Result<NamedText, SyntaxFault>
+    requires { AreInOrder 0 tokens.now (length text.now) }
+    ensures { IsNamed (lexemes text.now tokens.now) result }
+{
+    let NamedText { stage, enumerators } = match name_all(alloc, text, tokens) {
+        Ok(named) => named,
+        Err(_) => return Err(SyntaxFault::OutOfMemory),
+    };
+    match staged(stage) {
+        Ok(stage) => Ok(NamedText { stage, enumerators }),
+        Err(fault) => Err(fault),
+    }
 }

@@ -1,22 +1,41 @@
 // From a text of wide C to its marked tree, and the places of faults.
 
-ghost use Rattle.std.specs.Prelude.{◌≡◌, ◌≤◌, length, IfOk};
+ghost use Rattle.std.specs.Prelude.{◌≡◌, ◌≤◌, length, map, IfOk, IfErr};
 ghost use Rattle.cc_ast.specs.Source.{source};
-ghost use Rattle.cc_ast.specs.Parse.{SpellsText};
 ghost use Rattle.cc_tokens.specs.Token.{lexemes};
 ghost use Rattle.cc_tokens.specs.Tokens.{AreInOrder};
-ghost use Rattle.cc_wide_text.specs.Marks.{marked};
-ghost use Rattle.cc_wide_text.specs.Program.{IsKnownTree, IsReplacedTree, IsMarkedTree};
+ghost use Rattle.cc_wide_text.specs.Program.{IsMarkedTree, IsReadRefusal};
+ghost use Rattle.cc_wide_text.specs.internal.Answers.{IsPlaced, IsNumberedAnswer, IsKnownAnswer, IsReplacedAnswer};
+ghost use Rattle.cc_wide_text.specs.internal.Views.{number};
 
 use crate::macros::expanded;
 use crate::marks::marked;
 use crate::names::named;
+use crate::numbers::{Counted, Numbered, numbers_of};
 use crate::plain::plain;
 use crate::word::Stage;
 use cc_ast::Unit;
-use cc_syntax::parse;
-use cc_tokens::{MOST_BYTES, Place, SyntaxFault, Token, place_at, tokens};
-use std::alloc::Global;
+use cc_syntax::{parse, trees_are_determined};
+use cc_tokens::{MOST_BYTES, Place, SyntaxFault, Token, place_at, tokens, tokens_are_determined};
+use std::alloc::{AllocError, Global};
+
+/// A text of wide C that has been read.
+#[derive(Drop)]
+pub struct WideText {
+    /// The marked text, with the tree that it spells.
+    pub unit: Unit,
+    /// For each token of the marked text, the offset in the wide text of the token that it comes from. Tested, not proved.
+    pub origins: Vec<usize>,
+}
+
+impl WideText {
+    /// The marked text, with the tree that it spells.
+    pub fn unit(&self) -> &Unit
+        ensures { result.now ≡ self.now.unit }
+    {
+        &self.unit
+    }
+}
 
 // The offset of a place in a text.
 fn offset_of(text: &[u8], place: Place) -> usize {
@@ -36,132 +55,237 @@ fn offset_of(text: &[u8], place: Place) -> usize {
     text.len()
 }
 
-// The offset of the token that became the byte at a place of a stage, or the length of the text.
-fn origin(text: &[u8], tokens: &[Token], stage: &Stage, place: Place) -> usize {
-    let at = offset_of(stage.text.as_slice(), place);
-    for i in 0..stage.ends.len() {
-        if at < stage.ends[i] && i < tokens.len() {
-            return tokens[i].from;
+// The first number from k on of a token after which more than `at` bytes had been written.
+fn token_of(ends: &[usize], k: usize, at: usize) -> usize {
+    for i in k..ends.len() {
+        if at < ends[i] {
+            return i;
         }
     }
-    text.len()
+    ends.len()
+}
+
+// For each token of a stage, the origin of the token that became it.
+fn origins_of(
+    alloc: Global,
+    stage: &Stage,
+    origins: &[usize],
+    found: &[Token],
+) -> Result<Vec<usize>, AllocError> {
+    let mut all = Vec::new(alloc);
+    let mut k = 0;
+    for token in found {
+        k = token_of(stage.ends.as_slice(), k, token.from);
+        let origin = if k < origins.len() { origins[k] } else { 0 };
+        all.push(origin)?;
+    }
+    Ok(all)
+}
+
+// For each token, its offset.
+fn offsets(alloc: Global, found: &[Token]) -> Result<Vec<usize>, AllocError> {
+    let mut all = Vec::new(alloc);
+    for token in found {
+        all.push(token.from)?;
+    }
+    Ok(all)
 }
 
 fn place_in(text: &[u8], at: usize) -> Place {
     place_at(text, at.min(text.len()))
 }
 
-// A lexical fault, at another place.
-fn at_place(fault: SyntaxFault, place: Place) -> SyntaxFault {
+// The fault at another place; 7, which comes only for what is too long, becomes 5.
+fn at_place(fault: SyntaxFault, place: Place) -> SyntaxFault
+    ensures { IsPlaced fault result }
+{
     match fault {
         SyntaxFault::BadByte(_) => SyntaxFault::BadByte(place),
         SyntaxFault::UnclosedComment(_) => SyntaxFault::UnclosedComment(place),
         SyntaxFault::BadConstant(_) => SyntaxFault::BadConstant(place),
         SyntaxFault::ConstantTooLarge(_) => SyntaxFault::ConstantTooLarge(place),
-        SyntaxFault::Unexpected(_) => SyntaxFault::Unexpected(place),
+        SyntaxFault::Unexpected(_) | SyntaxFault::SourceTooLarge => SyntaxFault::Unexpected(place),
         SyntaxFault::TooDeep(_) => SyntaxFault::TooDeep(place),
-        SyntaxFault::SourceTooLarge => SyntaxFault::SourceTooLarge,
         SyntaxFault::OutOfMemory => SyntaxFault::OutOfMemory,
     }
 }
 
-// A fault of a text that another has become: what begins no token there is unexpected here.
-fn become_unexpected(fault: SyntaxFault) -> SyntaxFault {
+// The same for a fault of a text that another has become: what begins no token there is unexpected here.
+fn become_at(fault: SyntaxFault, place: Place) -> SyntaxFault
+    ensures { IsPlaced fault result }
+{
     match fault {
-        SyntaxFault::BadByte(place) => SyntaxFault::Unexpected(place),
-        other => other,
+        SyntaxFault::BadByte(_) => SyntaxFault::Unexpected(place),
+        other => at_place(other, place),
     }
 }
 
-// The fault of a text, given that of the text without character constants, whose offsets are the same.
-fn fault_in_plain(text: &[u8], plain: &[u8], fault: SyntaxFault) -> SyntaxFault {
-    match fault.place() {
-        Some(place) => {
-            let at = offset_of(plain, place);
-            at_place(fault, place_in(text, at))
-        }
-        None => fault,
-    }
-}
-
-// The fault of a text, given that of what its tokens became.
-fn fault_in_stage(text: &[u8], tokens: &[Token], stage: &Stage, fault: SyntaxFault) -> SyntaxFault {
-    match fault.place() {
-        Some(place) => {
-            let at = origin(text, tokens, stage, place);
-            at_place(become_unexpected(fault), place_in(text, at))
-        }
-        None => fault,
-    }
-}
-
-// Reads the text that tokens became, with marks.
-fn read_known(alloc: Global, text: &[u8], tokens: &[Token]) -> Result<Unit, SyntaxFault>
-    requires { AreInOrder 0 tokens.now (length text.now) }
-    ensures { IfOk result (λ u. SpellsText (marked (lexemes text.now tokens.now)) (source u).externals) }
+// The fault of a text without character constants, whose offsets are those of the wide text.
+fn fault_in_plain(wide: &[u8], plain: &[u8], fault: SyntaxFault) -> SyntaxFault
+    ensures { IsPlaced fault result }
 {
-    let stage = marked(alloc, text, tokens)?;
-    match parse(alloc, stage.text.as_slice()) {
-        Ok(unit) => Ok(unit),
-        Err(fault) => Err(fault_in_stage(text, tokens, &stage, fault)),
-    }
-}
-
-// Reads the text that tokens become with the names of types and of enumerators replaced.
-fn read_replaced(alloc: Global, text: &[u8], words: &[Token]) -> Result<Unit, SyntaxFault>
-    requires { AreInOrder 0 words.now (length text.now) }
-    ensures { IfOk result (λ u. IsKnownTree (lexemes text.now words.now) (source u).externals) }
-{
-    let stage = named(alloc, text, words)?;
-    let known = match tokens(alloc, stage.text.as_slice()) {
-        Ok(known) => known,
-        Err(fault) => return Err(fault_in_stage(text, words, &stage, fault)),
+    let at = match fault.place() {
+        Some(place) => offset_of(plain, place),
+        None => wide.len(),
     };
-    match read_known(alloc, stage.text.as_slice(), known.as_slice()) {
-        Ok(unit) => Ok(unit),
-        Err(fault) => Err(fault_in_stage(text, words, &stage, fault)),
-    }
+    at_place(fault, place_in(wide, at))
 }
 
-// Reads the text that tokens become with defined names replaced.
-fn read_words(alloc: Global, text: &[u8], words: &[Token]) -> Result<Unit, SyntaxFault>
-    requires { AreInOrder 0 words.now (length text.now) }
-    ensures { IfOk result (λ u. IsReplacedTree (lexemes text.now words.now) (source u).externals) }
-{
-    let stage = expanded(alloc, text, words)?;
-    let replaced = match tokens(alloc, stage.text.as_slice()) {
-        Ok(replaced) => replaced,
-        Err(fault) => return Err(fault_in_stage(text, words, &stage, fault)),
-    };
-    match read_replaced(alloc, stage.text.as_slice(), replaced.as_slice()) {
-        Ok(unit) => Ok(unit),
-        Err(fault) => Err(fault_in_stage(text, words, &stage, fault)),
+// A text that tokens are those of, and the origin of each token in the wide text.
+#[derive(Clone, Copy)]
+struct Reader<'a> {
+    alloc: Global,
+    wide: &'a [u8],
+    text: &'a [u8],
+    tokens: &'a [Token],
+    origins: &'a [usize],
+}
+
+impl Reader<'_> {
+    // The place in the wide text that token number i comes from.
+    fn origin(self, i: usize) -> Place {
+        let at = if i < self.origins.len() {
+            self.origins[i]
+        } else {
+            self.wide.len()
+        };
+        place_in(self.wide, at)
+    }
+
+    // The fault of what the tokens became.
+    fn fault_in(self, stage: &Stage, fault: SyntaxFault) -> SyntaxFault
+        ensures { IsPlaced fault result }
+    {
+        let i = match fault.place() {
+            Some(place) => {
+                let at = offset_of(stage.text.as_slice(), place);
+                token_of(stage.ends.as_slice(), 0, at)
+            }
+            None => self.tokens.len(),
+        };
+        become_at(fault, self.origin(i))
+    }
+
+    // Reads the text that tokens become with marks.
+    fn read_numbered(self, numbers: &[Numbered]) -> Result<WideText, SyntaxFault>
+        requires { AreInOrder 0 self.tokens.now (length self.text.now) }
+        ensures { IsNumberedAnswer (map number numbers.now) (lexemes self.entry.text.now self.entry.tokens.now) result }
+    {
+        let stage = match marked(self.alloc, numbers, self.text, self.tokens) {
+            Ok(stage) => stage,
+            Err(fault) => return Err(fault),
+        };
+        let unit = match parse(self.alloc, stage.text.as_slice()) {
+            Ok(unit) => unit,
+            Err(fault) => return Err(self.fault_in(&stage, fault)),
+        };
+        let Ok(found) = tokens(self.alloc, stage.text.as_slice()) else {
+            return Err(SyntaxFault::OutOfMemory);
+        };
+        let Ok(origins) = origins_of(self.alloc, &stage, self.origins, found.as_slice()) else {
+            return Err(SyntaxFault::OutOfMemory);
+        };
+        Ok(WideText { unit, origins })
+    }
+
+    // Reads the text that tokens become with the names of types replaced.
+    fn read_replaced(self) -> Result<WideText, SyntaxFault>
+        requires { AreInOrder 0 self.tokens.now (length self.text.now) }
+        ensures { IsKnownAnswer (lexemes self.entry.text.now self.entry.tokens.now) result }
+    {
+        tokens_are_determined();
+        trees_are_determined();
+        let named = match named(self.alloc, self.text, self.tokens) {
+            Ok(named) => named,
+            Err(fault) => return Err(fault),
+        };
+        let known = match tokens(self.alloc, named.stage.text.as_slice()) {
+            Ok(known) => known,
+            Err(fault) => return Err(self.fault_in(&named.stage, fault)),
+        };
+        let numbers = match numbers_of(self.alloc, named.enumerators.as_slice()) {
+            Ok(Counted::All(numbers)) => numbers,
+            Ok(Counted::Wrong(i)) => return Err(SyntaxFault::Unexpected(self.origin(i))),
+            Err(_) => return Err(SyntaxFault::OutOfMemory),
+        };
+        let Ok(origins) = origins_of(self.alloc, &named.stage, self.origins, known.as_slice())
+        else {
+            return Err(SyntaxFault::OutOfMemory);
+        };
+        let reader = Reader {
+            alloc: self.alloc,
+            wide: self.wide,
+            text: named.stage.text.as_slice(),
+            tokens: known.as_slice(),
+            origins: origins.as_slice(),
+        };
+        reader.read_numbered(numbers.as_slice())
+    }
+
+    // Reads the text that tokens become with defined names replaced.
+    fn read_words(self) -> Result<WideText, SyntaxFault>
+        requires { AreInOrder 0 self.tokens.now (length self.text.now) }
+        ensures { IsReplacedAnswer (lexemes self.entry.text.now self.entry.tokens.now) result }
+    {
+        tokens_are_determined();
+        let stage = match expanded(self.alloc, self.text, self.tokens) {
+            Ok(stage) => stage,
+            Err(fault) => return Err(fault),
+        };
+        let replaced = match tokens(self.alloc, stage.text.as_slice()) {
+            Ok(replaced) => replaced,
+            Err(fault) => return Err(self.fault_in(&stage, fault)),
+        };
+        let Ok(origins) = origins_of(self.alloc, &stage, self.origins, replaced.as_slice()) else {
+            return Err(SyntaxFault::OutOfMemory);
+        };
+        let reader = Reader {
+            alloc: self.alloc,
+            wide: self.wide,
+            text: stage.text.as_slice(),
+            tokens: replaced.as_slice(),
+            origins: origins.as_slice(),
+        };
+        reader.read_replaced()
     }
 }
 
 /// Returns the marked text of a text of wide C, and the tree that it spells.
 ///
-/// Refuses with 7 (SourceTooLarge) a text of more than 65,536 bytes, or one that becomes longer than that. Otherwise it refuses at
-/// the first wrong place: with 1 to 4 as `tokens` does, also a word that begins with two underscores (1) and a semicolon in a
-/// `#define` line (1); with 5 (Unexpected) or 6 (TooDeep) as `parse` does, also a defined name that is not new, one without white
-/// space after it, a name that is defined again, a wrong `typedef` or enumeration,
-/// a qualifier without a type, and `switch`, `case` and `default` outside functions (5). It refuses with 40
-/// (OutOfMemory) if memory runs out. Which fault comes first, and its place, are tested, not proved.
-pub fn read(alloc: Global, text: &[u8]) -> Result<Unit, SyntaxFault>
-    ensures { IfOk result (λ u. IsMarkedTree text.now (source u).externals) }
+/// Refuses with 7 (SourceTooLarge) a text of more than 65,536 bytes, or one that becomes longer than that, and with 40 (OutOfMemory)
+/// if memory runs out. Otherwise it refuses exactly if the text has no marked tree, at the first wrong place: with 1 to 4 as `tokens`
+/// does, also a word that begins with two underscores (1) and a semicolon in a `#define` line (1); with 5 (Unexpected) or 6 (TooDeep)
+/// as `parse` does, also a defined name that is not new, one without white space after it, one that is replaced by more than 4,096
+/// bytes, a name that is defined again, a wrong `typedef` or enumeration, a value of an enumerator that is not constant or not from
+/// -2147483647 to 2147483647 (at the enumerator), a qualifier without a type, a storage class in the wrong place, a label without a
+/// colon, and `switch`, `case` and `default` outside functions (5). Which of these faults comes first, and its place, are tested, not
+/// proved.
+pub fn read(alloc: Global, text: &[u8]) -> Result<WideText, SyntaxFault>
+    ensures read { IfOk result (λ w. IsMarkedTree text.now (source w.unit).externals) }
+    ensures refused { IfErr result (λ fault. IsReadRefusal text.now fault) }
 {
+    tokens_are_determined();
     if text.len() > MOST_BYTES {
         return Err(SyntaxFault::SourceTooLarge);
     }
-    let plain = plain(alloc, text)?;
+    let Ok(plain) = plain(alloc, text) else {
+        return Err(SyntaxFault::OutOfMemory);
+    };
     let words = match tokens(alloc, plain.as_slice()) {
         Ok(words) => words,
         Err(fault) => return Err(fault_in_plain(text, plain.as_slice(), fault)),
     };
-    match read_words(alloc, plain.as_slice(), words.as_slice()) {
-        Ok(unit) => Ok(unit),
-        Err(fault) => Err(fault_in_plain(text, plain.as_slice(), fault)),
-    }
+    let Ok(origins) = offsets(alloc, words.as_slice()) else {
+        return Err(SyntaxFault::OutOfMemory);
+    };
+    let reader = Reader {
+        alloc,
+        wide: text,
+        text: plain.as_slice(),
+        tokens: words.as_slice(),
+        origins: origins.as_slice(),
+    };
+    reader.read_words()
 }
 
 #[cfg(test)]
@@ -175,8 +299,8 @@ mod tests {
             b"#define N 3 // three\nstatic const int k = N;\nint main(void)\n{\n const int x = 'a';\n switch (x) { case N: case N ? 2 : 5: return (const int)1; default: break; }\n return k;\n}\n";
         let wanted =
             b"int k = 3 ; int main ( void ) { int x = 97 ; while ( __switch ) while ( x ) { __case = 3 ; __case = 3 ? 2 : 5 ; return ( int ) 1 ; __default ; break ; } return k ; } ";
-        let unit = read(rt.alloc(), text)?;
-        assert_eq!(rt; unit.text(), wanted.as_slice());
+        let read = read(rt.alloc(), text)?;
+        assert_eq!(rt; read.unit.text(), wanted.as_slice());
         Ok(())
     }
 
@@ -184,10 +308,9 @@ mod tests {
     fn names_are_replaced(rt: HostRuntime) -> Result<(), Fail> {
         let text =
             b"typedef unsigned word; enum op { ADD, SUB = 'a', MUL, };\nword f(const word x) { return (word)MUL + x; }";
-        let wanted =
-            b"unsigned int f ( unsigned int x ) { return ( unsigned int ) ( ( signed int ) ( 97 ) + 0x0001 ) + x ; } ";
-        let unit = read(rt.alloc(), text)?;
-        assert_eq!(rt; unit.text(), wanted.as_slice());
+        let wanted = b"unsigned int f ( unsigned int x ) { return ( unsigned int ) 98 + x ; } ";
+        let read = read(rt.alloc(), text)?;
+        assert_eq!(rt; read.unit.text(), wanted.as_slice());
         Ok(())
     }
 
@@ -205,6 +328,134 @@ mod tests {
                 }
             }
         }
+    }
+
+    // The marked text, or none.
+    fn marked_text(rt: &HostRuntime, text: &[u8]) -> Result<Vec<u8>, Fail> {
+        let read = read(rt.alloc(), text)?;
+        Ok(Vec::from_slice(rt.alloc(), read.unit.text())?)
+    }
+
+    #[test]
+    fn enumerators_are_numbers(rt: HostRuntime) -> Result<(), Fail> {
+        let text =
+            b"enum { A = 1 + 1, B = A * (A + 1), C, D = -3, E, F = 'a' }; typedef enum { G = 9 - 9 } g; enum h { H = (int)0xffffffff }; g x[7] = { A, B, C, D, E, F, G }; enum h y = H;";
+        let wanted =
+            b"signed int x [ 7 ] = { 2 , 6 , 7 , ( - 3 ) , ( - 2 ) , 97 , 0 } ; signed int y = ( - 1 ) ; ";
+        let found = marked_text(&rt, text)?;
+        assert_eq!(rt; found.as_slice(), wanted.as_slice());
+        Ok(())
+    }
+
+    #[test]
+    fn replacements_are_bounded(rt: HostRuntime) -> Result<(), Fail> {
+        let mut text = Vec::from_slice(rt.alloc(), b"#define A0 x x x x x x x x\n")?;
+        for i in 1..12u32 {
+            let before = i - 1;
+            let line = format!(in rt.alloc(); "#define A{i} A{before} A{before}\n")?;
+            text.extend_from_slice(line.as_bytes())?;
+        }
+        assert_eq!(rt; refused(&rt, text.as_slice(), 5), (10, 15));
+        Ok(())
+    }
+
+    #[test]
+    fn long_texts_are_refused(rt: HostRuntime) -> Result<(), Fail> {
+        let mut text = Vec::from_slice(rt.alloc(), b"#define A x x x x x x x x\n")?;
+        for _ in 0..5000 {
+            text.extend_from_slice(b"A ")?;
+        }
+        let is_long = match read(rt.alloc(), text.as_slice()) {
+            Ok(_) => false,
+            Err(fault) => fault.number() == 7,
+        };
+        assert!(rt; is_long);
+        Ok(())
+    }
+
+    #[test]
+    fn labels_end_with_colons(rt: HostRuntime) -> Result<(), Fail> {
+        assert_eq!(rt;
+            refused(
+                &rt,
+                b"int f(int x) { switch (x) { case 1; x = 2 : ; } return x; }",
+                5
+            ),
+            (1, 35)
+        );
+        assert_eq!(rt;
+            refused(
+                &rt,
+                b"int f(int x) { switch (x) { default x: ; } return x; }",
+                5
+            ),
+            (1, 37)
+        );
+        assert_eq!(rt;
+            refused(
+                &rt,
+                b"int f(int x) { switch (x) { case 1 ? 2 : 3; } return x; }",
+                5
+            ),
+            (1, 43)
+        );
+        Ok(())
+    }
+
+    #[test]
+    fn enumerators_are_constants(rt: HostRuntime) -> Result<(), Fail> {
+        assert_eq!(rt; refused(&rt, b"enum { T = read_word() };", 5), (1, 8));
+        assert_eq!(rt; refused(&rt, b"int n; enum { A, B = A + n };", 5), (1, 18));
+        assert_eq!(rt; refused(&rt, b"enum { A = 2147483648u };", 5), (1, 8));
+        assert_eq!(rt; refused(&rt, b"enum { A = 2147483647, B };", 5), (1, 24));
+        assert_eq!(rt; refused(&rt, b"enum { A = 1 / 0 };", 5), (1, 8));
+        assert_eq!(rt; refused(&rt, b"enum { A = };", 5), (1, 8));
+        assert_eq!(rt; refused(&rt, b"enum { A = 1 2 };", 5), (1, 8));
+        assert_eq!(rt; refused(&rt, b"enum { A = B, B = 2 };", 5), (1, 15));
+        Ok(())
+    }
+
+    #[test]
+    fn defined_names_are_new(rt: HostRuntime) -> Result<(), Fail> {
+        assert_eq!(rt; refused(&rt, b"int A; enum { A };", 5), (1, 15));
+        assert_eq!(rt; refused(&rt, b"int f(int t); typedef int t;", 5), (1, 27));
+        assert_eq!(rt; refused(&rt, b"enum { A }; typedef int A;", 5), (1, 25));
+        assert_eq!(rt; refused(&rt, b"enum t { A }; enum t { B };", 5), (1, 22));
+        assert_eq!(rt; refused(&rt, b"enum t x;", 5), (1, 8));
+        Ok(())
+    }
+
+    #[test]
+    fn definitions_are_outside(rt: HostRuntime) -> Result<(), Fail> {
+        assert_eq!(rt;
+            refused(&rt, b"int a[1] = { 1 } typedef int t; ;", 5),
+            (1, 18)
+        );
+        assert_eq!(rt; refused(&rt, b"int a[1] = { 1 } enum { A }; ;", 5), (1, 23));
+        assert_eq!(rt;
+            refused(&rt, b"int f(void) { enum { A }; return A; }", 5),
+            (1, 20)
+        );
+        Ok(())
+    }
+
+    #[test]
+    fn storage_classes_come_once(rt: HostRuntime) -> Result<(), Fail> {
+        assert_eq!(rt; refused(&rt, b"static static int x;", 5), (1, 8));
+        assert_eq!(rt;
+            refused(&rt, b"int f(void) { return (register int)1; }", 5),
+            (1, 23)
+        );
+        assert_eq!(rt;
+            refused(
+                &rt,
+                b"int f(void) { int a; a = 1; register static int b; return a; }",
+                5
+            ),
+            (1, 38)
+        );
+        assert_eq!(rt; refused(&rt, b"int static x;", 5), (1, 5));
+        Ok(())
     }
 
     #[test]

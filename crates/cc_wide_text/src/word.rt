@@ -4,9 +4,10 @@ ghost use Rattle.std.specs.Prelude.{◌≡◌, ◌+◌, ◌++◌, ◌<◌, ◌�
 ghost use Rattle.cc_tokens.specs.Token.{lexemes};
 ghost use Rattle.cc_tokens.specs.Tokens.{AreInOrder};
 ghost use Rattle.cc_wide_text.specs.Lexing.{is_identifier, is_word, spaced};
+ghost use Rattle.cc_wide_text.specs.internal.Answers.{IsStage};
 ghost use Rattle.cc_wide_text.specs.internal.Views.{lexeme_of};
 
-use cc_tokens::{Token, TokenKind};
+use cc_tokens::{MOST_BYTES, SyntaxFault, Token, TokenKind};
 use std::alloc::AllocError;
 
 /// A text that tokens of another became, and how many of its bytes had been written after each of these.
@@ -14,6 +15,22 @@ use std::alloc::AllocError;
 pub struct Stage {
     pub text: Vec<u8>,
     pub ends: Vec<usize>,
+}
+
+/// One more token: how many bytes have been written after it.
+pub fn push_end(ends: &mut Vec<usize>, written: usize) -> Result<(), AllocError> {
+    ends.push(written)?;
+    Ok(())
+}
+
+/// The stage, if its text has at most 65,536 bytes; otherwise 7 (SourceTooLarge).
+pub fn staged(stage: Stage) -> Result<Stage, SyntaxFault>
+    ensures { IsStage stage.text.items result }
+{
+    if MOST_BYTES < stage.text.len() {
+        return Err(SyntaxFault::SourceTooLarge);
+    }
+    Ok(stage)
 }
 
 /// A token, its bytes, and the offset of its first byte.
