@@ -27,6 +27,8 @@ pub mod Chains
 pub mod Advancing
 -- a list of words followed by zeros
 pub mod Padding
+-- a run takes no word back
+pub mod Growing
 -- the run with more input
 pub mod Feeding
 -- runs that read no further than their input

@@ -4,12 +4,12 @@ ghost use Rattle.std.specs.Prelude.{◌≡◌, ◌≢◌, ◌+◌, ◌-◌, ◌<
 ghost use Rattle.cc_words.specs.Observed.{reads_in};
 ghost use Rattle.cc_rv32.specs.Machine.{Run, machine_run, machine_behavior, observed_machine, start};
 ghost use Rattle.cc_rv32.specs.InPlace.{is_in_place};
-ghost use Rattle.cc_rv32.specs.Simulation.{Simulation, shown_run, in_words, IsAfter, IsOn, IsWrite, StopsToRead, WentWithin, Wrote};
+ghost use Rattle.cc_rv32.specs.Simulation.{Simulation, shown_run, in_words, IsAfter, IsFull, IsOn, IsWrite, StopsToRead, WentWithin, Wrote};
 
 use crate::fault::MachineFault;
 use crate::image::Image;
 use crate::outcome::MachineOutcome;
-use crate::simulator::{Simulator, run_for, run_to_read, run_to_wait};
+use crate::simulator::{Simulator, run_for, run_to_read, run_to_wait, run_within};
 use std::alloc::Global;
 use std::marker::Model;
 
@@ -98,6 +98,31 @@ impl Machine {
             return Err(MachineFault::OutOfMemory);
         };
         Ok(simulator.outcome)
+    }
+
+    /// Executes this many instructions, or fewer if the machine exits or traps, but stops before an instruction that writes a word when the
+    /// output has `most` words already. Returns how many instructions are left then, at least 1, and otherwise `None`: then it has done what
+    /// `run` does. Fails with 40 (OutOfMemory) only if an instruction writes a word and the output could not grow; then the instructions
+    /// before that one have been executed.
+    pub fn run_within(&mut self, steps: u64, most: u64) -> Result<Option<u64>, MachineFault>
+        ensures code { self.new.code ≡ self.old.code }
+        ensures run { IfOk result (λ left. shown_run self.new ≡ in_words (machine_run self.old.code (steps - unwrap_or left 0) (shown_run self.old))) }
+        ensures full { IfOk result (λ left. IfSome left (λ n. IsFull steps most n self.new)) }
+        ensures bounded { length self.old.output ≤ most → length self.new.output ≤ most }
+        ensures behavior { IfOk result (λ left. (image : Image) (input : List ℕ) (done : ℕ) → IsAfter image input done self.old
+            → IsAfter image input (done + (steps - unwrap_or left 0)) self.new
+            × (self.new.outcome ≡ (machine_behavior image input (done + (steps - unwrap_or left 0))).outcome)) }
+        // With any more instructions there are more words.
+        ensures last { IfOk result (λ left. IfSome left (λ n. (image : Image) (input : List ℕ) (done more : ℕ) → IsAfter image input done self.old → 0 < more
+            → length self.new.output < length (machine_behavior image input (done + (steps - n) + more)).output)) }
+        ensures refused { OnErr result ((k : ℕ) × (k < steps) × (shown_run self.new ≡ in_words (machine_run self.old.code k (shown_run self.old)))
+            × IsWrite self.new.code (shown_run self.new)) }
+    {
+        let simulator = &mut self.simulator;
+        let Ok(left) = run_within(simulator, steps, most) else {
+            return Err(MachineFault::OutOfMemory);
+        };
+        Ok(left)
     }
 
     /// Executes this many instructions, or fewer if the machine exits or traps, but stops before an instruction that reads. Returns how
