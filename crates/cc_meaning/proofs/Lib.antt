@@ -48,6 +48,8 @@ pub mod Fetching
 pub mod Running
 -- several instructions that run as one
 pub mod Fusing
+-- a run only adds to its output
+pub mod Adding
 -- instructions kept with the last one first
 pub mod Emitting
 -- writing expressions

@@ -8,7 +8,7 @@
 //! - `outcome`: the outcome of a run.
 //! - `fault`: the refusal 40.
 //!
-//! The crate exports `interpret` and `interpret_observed`, the types of its arguments and results, and the items of `cc_c_semantics`. The meaning of C
+//! The crate exports `interpret`, `interpret_observed` and `interpret_within`, the types of its arguments and results, and the items of `cc_c_semantics`. The meaning of C
 //! is defined in that crate's `specs/Meaning.antt`, and it is proved that `interpret` returns it.
 #![tactic(auto)]
 
@@ -29,5 +29,5 @@ pub use cc_c_semantics::{
 };
 pub use fault::MeaningFault;
 pub use interpreter::MOST_OPEN;
-pub use outcome::{Event, Events, Observed, Outcome, Stop, Words};
-pub use run::{interpret, interpret_observed};
+pub use outcome::{BoundedOutcome, Event, Events, Observed, Outcome, Stop, Words};
+pub use run::{interpret, interpret_observed, interpret_within};

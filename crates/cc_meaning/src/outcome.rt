@@ -119,3 +119,10 @@ pub struct Outcome {
     pub stop: Stop,
     pub output: Words,
 }
+
+/// What a run did that may write only so many words, and whether it was stopped before it wrote more.
+#[derive(Drop)]
+pub struct BoundedOutcome {
+    pub outcome: Outcome,
+    pub is_cut: bool,
+}

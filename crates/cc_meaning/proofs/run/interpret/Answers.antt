@@ -5,7 +5,7 @@ use Rattle.cc_words.specs.Observed.{written_words}
 use Rattle.cc_c_semantics.specs.Outcome.{Stop}
 use Rattle.cc_c_semantics.specs.Meaning.{observed_behavior}
 use Rattle.cc_meaning.specs.Erase.{stop_tree}
-use Rattle.cc_meaning.specs.internal.Form.{resolved, observing}
+use Rattle.cc_meaning.specs.internal.Form.{resolved}
 use Rattle.cc_meaning.specs.internal.FormErase.{form_tree}
 use Rattle.cc_meaning.specs.internal.FormMeaning.{first_configuration}
 use Rattle.cc_meaning.specs.internal.Ran.{ComesTo}
