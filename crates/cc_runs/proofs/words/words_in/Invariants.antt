@@ -2,7 +2,7 @@
 use Rattle.std.proofs.Common.{◌≡◌}
 use Rattle.cc_runs.specs.Words.{input_in}
 use Rattle.cc_runs.specs.internal.Cutting.{input_left, room_left}
-use Rattle.cc_runs.proofs.Reading.{with_left}
+use Rattle.cc_runs.proofs.InputWords.{with_left}
 use Rattle.cc_runs.proofs.words.words_in.Given as goal
 
 abbrev pub invariant-loop-rest : goal.invariant-loop-rest
