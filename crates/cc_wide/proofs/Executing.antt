@@ -1,5 +1,6 @@
 -- A lowered statement does what the wide one does: by recursion on the wide one.
-use Rattle.std.proofs.Common.{◌≡◌, ℕ, zero, suc, ◌<◌, Bool, true, false, if◌then◌else◌, List, ◌++◌, nat_le, Option, Some, None, refl, sym, ap, ◌∙◌, subst, arith, ne_eqb}
+use Rattle.std.proofs.Common.{◌≡◌, ℕ, zero, suc, ◌+◌, ◌/◌, ◌<◌, Bool, true, false, if◌then◌else◌, List, ◌++◌, nat_le, Option, Some, None, refl, sym, ap, ◌∙◌, subst, arith, ne_eqb}
+use Rattle.std.proofs.lemmas.Bool.{and_from, le-leb, leb-false}
 use Rattle.cc_words.specs.Words.{truth_value, eq}
 use Rattle.cc_ast.specs.scalar.Scalar.{Scalar}
 use Rattle.cc_ast.specs.scalar.Scalar.TheVariants.{Int}
@@ -12,11 +13,13 @@ use Rattle.cc_c_semantics.specs.Meaning.{Local, State, Run, Gives, Going, Wrong,
 use Rattle.cc_wide.specs.WideTree as source
 use Rattle.cc_wide.specs.WideTree.{WideStmt, Block, Perform, Return, Break, Continue, If, IfElse, While, DoWhile, For, Switch, WideStmts, end, next, Sections, last, section}
 use Rattle.cc_wide.specs.WideMeaning.{default_of, entry, behind_switch, wide_scope_behind, execute, execute_all, execute_from}
-use Rattle.cc_wide.specs.Lowering.{hidden, hidden_name, Around, Outside, Loop, Caught, sets, equals, at_most, chain_of, continuing, after, within, lowered, all_lowered, sections_lowered, ExprIsOwn, MayContinue, Lowers, AllLower, SectionsLower}
+use Rattle.cc_wide.specs.Lowering.{hidden, hidden_name, Around, Outside, Loop, Caught, sets, equals, at_most, words_of, cases_of, count_in, choice_of, count_of, few_sections, grouped, groups_of, first_of, after_first, continuing, after, within, lowered, all_lowered, sections_lowered, ExprIsOwn, MayContinue, Lowers, AllLower, SectionsLower}
 use Rattle.cc_wide.proofs.Locals.{word_stored}
 use Rattle.cc_wide.proofs.Expressions.{at, SeesNone}
 use Rattle.cc_wide.proofs.Landing.{Shape, Fits, refit, put_fits, Left, Sits, Any, Most, Ran, RanIn, left_breaks, ran_falls, twin_ran, ran_next, ran_choose, ran_shut, ran_open, ran_block, ran_again, ran_skip, ran_begin, ran_turns}
-use Rattle.cc_wide.proofs.Statements.{AlikeIn, alike_beginning, alike_behind, put_hidden, word_hidden, chain_value, entry_positive, test_at_most, twin_value, twin_or, ran_optional, ran_declare, ran_start, ran_return, ran_continue}
+use Rattle.cc_wide.proofs.Choosing.{look_cases, scope_choice, choice_run}
+use Rattle.cc_wide.proofs.Groups.{first_sections, after_sections, first_lowered, after_lowered, from_split, from_none}
+use Rattle.cc_wide.proofs.Statements.{AlikeIn, alike_beginning, alike_behind, put_hidden, word_hidden, entry_positive, test_at_most, twin_value, twin_or, ran_optional, ran_declare, ran_start, ran_return, ran_continue}
 
 -- ---- the test after a switch
 
@@ -132,14 +135,14 @@ module _ (z : Shape) (call called : Calls) (sees : SeesNone call called) (n : �
   abbrev SectionsRan : Sections → Around → ℕ → Type 0
   SectionsRan all a d =
       (k : ℕ) (V : ℕ → Option ℕ) → V d ≡ Some k → (v w : Visible) → AlikeIn v w → (N : ℕ)
-      → RanIn z (Most N) a (suc d) V (plain.execute_all (sections_lowered a d 1 all) n call v) (execute_from all 1 k n called w)
+      → RanIn z (Most N) a (suc d) V (plain.execute_all (groups_of d (sections_lowered a d 1 all)) n call v) (execute_from all 1 k n called w)
 
   module _ (e : Expr) (all : Sections) (a : Around) (d : ℕ) (W : ℕ → Option ℕ) (below : d < z.names) (own : ExprIsOwn e) (sits : Sits z a d) (ran : SectionsRan all (within a d) d) (v w : Visible) (k : AlikeIn v w) (N : ℕ) where
     abbrev loop_of_one : Stmts
-    loop_of_one = tree.next (tree.DoWhile (tree.Block (sections_lowered (within a d) d 1 all)) (Number Int 0)) (after a d)
+    loop_of_one = tree.next (tree.DoWhile (tree.Block (groups_of d (sections_lowered (within a d) d 1 all))) (Number Int 0)) (after a d)
 
     abbrev sought : Stmts
-    sought = tree.next (sets d (chain_of d 1 all (default_of all))) loop_of_one
+    sought = tree.next (choice_of d all) loop_of_one
 
     abbrev wide_rest : ℕ → State → Run Flow
     wide_rest y t = spend (λ u. then_do (execute_from all 1 (entry y all) n called (opened w) u) (λ flow r. Gives (behind_switch flow) r)) t
@@ -149,21 +152,22 @@ module _ (z : Shape) (call called : Calls) (sees : SeesNone call called) (n : �
     entered y f H b s h is q =
         let V : ℕ → Option ℕ = λ i. local_word H (hidden_name i) in
         spent N d W V (entry y all) below (λ i lt. h.held i lt) is (entry_positive y all) v a sits s.steps
-        (in_block (in_block (plain.execute_all (sections_lowered (within a d) d 1 all) n call (opened (opened v))))) (execute_from all 1 (entry y all) n called (opened w)) f H b s
-        (ran_again z (within a d) (suc d) V (in_block (plain.execute_all (sections_lowered (within a d) d 1 all) n call (opened (opened v)))) (execute_from all 1 (entry y all) n called (opened w))
-        (ran_again z (within a d) (suc d) V (plain.execute_all (sections_lowered (within a d) d 1 all) n call (opened (opened v))) (execute_from all 1 (entry y all) n called (opened w))
+        (in_block (in_block (plain.execute_all (groups_of d (sections_lowered (within a d) d 1 all)) n call (opened (opened v))))) (execute_from all 1 (entry y all) n called (opened w)) f H b s
+        (ran_again z (within a d) (suc d) V (in_block (plain.execute_all (groups_of d (sections_lowered (within a d) d 1 all)) n call (opened (opened v)))) (execute_from all 1 (entry y all) n called (opened w))
+        (ran_again z (within a d) (suc d) V (plain.execute_all (groups_of d (sections_lowered (within a d) d 1 all)) n call (opened (opened v))) (execute_from all 1 (entry y all) n called (opened w))
         (λ m. ran (entry y all) V is (opened (opened v)) (opened w) k m)) N)
         (refit z d (suc d) W V f H b h (λ i lt. refl)) q
 
     found_section : (y : ℕ) (f H b : List Local) (s : State) → Fits z d W f H b → local_word H (hidden_name d) ≡ Some y → Most N f
         → Ran z (Most N) a d W (plain.execute_all sought n call v (at s (f ++ (H ++ b)))) (wide_rest y (at s (f ++ b)))
     found_section y f H b s h is q =
-        let st : State = at s (f ++ (H ++ b)) in
         let x = hidden_name d in
         let key : ℕ = entry y all in
-        let first = assign_then (evaluate (chain_of d 1 all (default_of all)) (in_scope v) call st) (target_type (in_scope v) (AtVariable (hidden d))) (value_type (in_scope v) (chain_of d 1 all (default_of all))) x (plain.execute_all loop_of_one n call v) in
-        let second = ap (λ (r : Run ℕ). then_do r (λ o u. plain.execute_all loop_of_one n call v (stored x o u))) (chain_value (in_scope v) call st d y (word_hidden z d W f H b s d y below h is) all 1 (default_of all)) in
-        let third = ap (plain.execute_all loop_of_one n call v) (put_hidden z d W f H b s d key below h) in
+        let levels = count_in 0 None (words_of (cases_of 1 all)) in
+        let first = ap (λ (r : Run Flow). then_do r (λ flow u. behind_flow flow (plain.execute_all loop_of_one n call (scope_behind (choice_of d all) v)) u))
+        (choice_run z d W call n y (default_of all) (cases_of 1 all) f H b s below h is levels v 0 None (and_from (nat_le 0 y) true (le-leb 0 y (omega arith)) refl)) in
+        let second = ap (λ k. plain.execute_all loop_of_one n call (scope_behind (choice_of d all) v) (at s (f ++ (with_local_word x k H ++ b)))) (look_cases y (default_of all) 1 all) in
+        let third = ap (λ o. plain.execute_all loop_of_one n call o (at s (f ++ (with_local_word x key H ++ b)))) (scope_choice levels d (default_of all) 0 None (cases_of 1 all) v) in
         subst (λ r. Ran z (Most N) a d W r (wide_rest y (at s (f ++ b)))) (sym (first ∙ second ∙ third))
         (entered y f (with_local_word x key H) b s (put_fits z d d W f H b key (omega arith) h) (word_stored H x key (h.there d below)) q)
 
@@ -193,6 +197,79 @@ module _ (z : Shape) (call called : Calls) (sees : SeesNone call called) (n : �
       (test_at_most (in_scope v) call (at s (f ++ (H ++ b))) d i k (word_hidden z (suc d) V f H b s d k below h (h.held d (omega arith) ∙ is)))))
       (chosen_by a (suc d) V N (nat_le k i) (in_block (in_block (plain.execute_all body n call (opened (opened v))))) was
       (ran_again z a (suc d) V (in_block (plain.execute_all body n call (opened (opened v)))) was g N) f H b s h q)
+
+  -- ---- the sections, if their bodies do what they should
+
+  abbrev BodiesRan : Sections → Around → ℕ → (ℕ → Option ℕ) → Type 0
+  BodiesRan last a d V = Unit {0}
+  BodiesRan (section ls body rest) a d V =
+      ((v w : Visible) → AlikeIn v w → RanIn z Any a (suc d) V (plain.execute_all (all_lowered a (suc d) body) n call v) (execute_all body n called w)) × BodiesRan rest a d V
+
+  bodies_first : (h : ℕ) (all : Sections) (a : Around) (d : ℕ) (V : ℕ → Option ℕ) → BodiesRan all a d V → BodiesRan (first_sections h all) a d V
+  bodies_first zero all a d V r = tt
+  bodies_first (suc h) last a d V r = tt
+  bodies_first (suc h) (section ls body rest) a d V r = (r.0, bodies_first h rest a d V r.1)
+
+  bodies_after : (h : ℕ) (all : Sections) (a : Around) (d : ℕ) (V : ℕ → Option ℕ) → BodiesRan all a d V → BodiesRan (after_sections h all) a d V
+  bodies_after zero all a d V r = r
+  bodies_after (suc h) last a d V r = tt
+  bodies_after (suc h) (section ls body rest) a d V r = bodies_after h rest a d V r.1
+
+  ran_sections : (all : Sections) (a : Around) (d i key : ℕ) (V : ℕ → Option ℕ) → d < z.names → V d ≡ Some key → BodiesRan all a d V → (v w : Visible) → AlikeIn v w → (N : ℕ)
+      → RanIn z (Most N) a (suc d) V (plain.execute_all (sections_lowered a d i all) n call v) (execute_from all i key n called w)
+  ran_sections last a d i key V below is h v w k N = ran_falls z (Most N) a (suc d) V
+  ran_sections (section ls body rest) a d i key V below is h v w k N = λ f H b t g q.
+      ran_next z (Most N) a (suc d) V (plain.execute (tree.If (at_most d i) (tree.Block (all_lowered a (suc d) body))) n call v (at t (f ++ (H ++ b))))
+      ((if nat_le key i then in_block (execute_all body n called (opened w)) else (λ u. Gives Falls u)) (at t (f ++ b)))
+      (plain.execute_all (sections_lowered a d (suc i) rest) n call v) (execute_from rest (suc i) key n called w)
+      (ran_section a d i key V below is v (all_lowered a (suc d) body) (in_block (execute_all body n called (opened w))) N
+      (λ m. ran_shut z a (suc d) V (plain.execute_all (all_lowered a (suc d) body) n call (opened (opened v))) (execute_all body n called (opened w))
+      (h.0 (opened (opened v)) (opened w) k) m) f H b t g q)
+      (ran_sections rest a d (suc i) key V below is h.1 v w k N)
+
+  -- a group is entered if one of its sections is executed
+  entered_if : (all : Sections) (i h key : ℕ) (w : Visible) (t : State) (c : Bool) → nat_le key (i + h) ≡ c
+      → (if c then execute_from (first_sections h all) (suc i) key n called w else (λ u. Gives Falls u)) t ≡ execute_from (first_sections h all) (suc i) key n called w t
+  entered_if all i h key w t true e = refl
+  entered_if all i h key w t false e =
+      sym (from_none h all (suc i) key n called w t (let past : i + h < key = leb-false key (i + h) e in omega (arith, past)))
+
+  abbrev GroupsRan : ℕ → Type 0
+  GroupsRan levels =
+      (all : Sections) (a : Around) (d i key : ℕ) (V : ℕ → Option ℕ) → d < z.names → V d ≡ Some key → BodiesRan all a d V → (v w : Visible) → AlikeIn v w → (N : ℕ)
+      → RanIn z (Most N) a (suc d) V (plain.execute_all (grouped levels d i (sections_lowered a d (suc i) all)) n call v) (execute_from all (suc i) key n called w)
+
+  grouped_by : (levels : ℕ) → GroupsRan levels → (all : Sections) (a : Around) (d i key : ℕ) (V : ℕ → Option ℕ) → d < z.names → V d ≡ Some key → BodiesRan all a d V → (v w : Visible) → AlikeIn v w → (N : ℕ)
+      → (few : Bool) (m : ℕ)
+      → RanIn z (Most N) a (suc d) V
+      (plain.execute_all (if few then sections_lowered a d (suc i) all
+      else tree.next (tree.If (at_most d (i + m)) (tree.Block (grouped levels d i (first_of m (sections_lowered a d (suc i) all))))) (grouped levels d (i + m) (after_first m (sections_lowered a d (suc i) all)))) n call v)
+      (execute_from all (suc i) key n called w)
+  grouped_by levels ran all a d i key V below is h v w k N true m = ran_sections all a d (suc i) key V below is h v w k N
+  grouped_by levels ran all a d i key V below is h v w k N false m = λ f H b t g q.
+      let group : Stmts = grouped levels d i (first_of m (sections_lowered a d (suc i) all)) in
+      let others : Stmts = grouped levels d (i + m) (after_first m (sections_lowered a d (suc i) all)) in
+      let front = first_sections m all in
+      let back = after_sections m all in
+      let was : State → Run Flow = execute_from front (suc i) key n called w in
+      let inside : (o : Visible) → AlikeIn o w → (l : ℕ) → RanIn z (Most l) a (suc d) V (plain.execute_all group n call o) was =
+      λ o j l. subst (λ ss. RanIn z (Most l) a (suc d) V (plain.execute_all (grouped levels d i ss) n call o) was) (sym (first_lowered m all a d (suc i)))
+      (ran front a d i key V below is (bodies_first m all a d V h) o w j l) in
+      let outside : RanIn z (Most N) a (suc d) V (plain.execute_all others n call v) (execute_from back (suc (i + m)) key n called w) =
+      subst (λ ss. RanIn z (Most N) a (suc d) V (plain.execute_all (grouped levels d (i + m) ss) n call v) (execute_from back (suc (i + m)) key n called w)) (sym (after_lowered m all a d i))
+      (ran back a d (i + m) key V below is (bodies_after m all a d V h) v w k N) in
+      subst (λ r. Ran z (Most N) a (suc d) V (plain.execute_all (tree.next (tree.If (at_most d (i + m)) (tree.Block group)) others) n call v (at t (f ++ (H ++ b)))) r) (sym (from_split m all i key n called w (at t (f ++ b))))
+      (ran_next z (Most N) a (suc d) V (plain.execute (tree.If (at_most d (i + m)) (tree.Block group)) n call v (at t (f ++ (H ++ b)))) (was (at t (f ++ b)))
+      (plain.execute_all others n call v) (execute_from back (suc (i + m)) key n called w)
+      (subst (λ r. Ran z (Most N) a (suc d) V (plain.execute (tree.If (at_most d (i + m)) (tree.Block group)) n call v (at t (f ++ (H ++ b)))) r) (entered_if all i m key w (at t (f ++ b)) (nat_le key (i + m)) refl)
+      (ran_section a d (i + m) key V below is v group was N
+      (λ l. ran_again z a (suc d) V (plain.execute_all group n call (opened (opened v))) was (λ l'. inside (opened (opened v)) k l') l) f H b t g q))
+      outside)
+
+  ran_grouped : (levels : ℕ) → GroupsRan levels
+  ran_grouped zero all a d i key V below is h v w k N = ran_sections all a d (suc i) key V below is h v w k N
+  ran_grouped (suc levels) all a d i key V below is h v w k N =
+      grouped_by levels (ran_grouped levels) all a d i key V below is h v w k N (nat_le (count_of (sections_lowered a d (suc i) all)) few_sections) (count_of (sections_lowered a d (suc i) all) / 2)
 
   -- ---- statements
 
@@ -244,11 +321,11 @@ module _ (z : Shape) (call called : Calls) (sees : SeesNone call called) (n : �
         (ran_block z Loop d W (plain.execute (lowered Loop d s) n call (opened v')) (execute s n called (opened w')) (ran_execute s Loop d W h.3 tt (opened v') (opened w') k'))
         (ran_optional z d W call called sees Loop behind h.2 (in_scope v') (in_scope w') k')))
     ran_execute (Switch e all) a d W h sits v w k =
-        let part : State → Run Flow = plain.execute_all (tree.next (sets d e) (tree.next (sets d (chain_of d 1 all (default_of all))) (tree.next (tree.DoWhile (tree.Block (sections_lowered (within a d) d 1 all)) (Number Int 0)) (after a d)))) n call (opened v) in
+        let part : State → Run Flow = plain.execute_all (tree.next (sets d e) (tree.next (choice_of d all) (tree.next (tree.DoWhile (tree.Block (groups_of d (sections_lowered (within a d) d 1 all))) (Number Int 0)) (after a d)))) n call (opened v) in
         ran_open z a d W (in_block part) (execute (Switch e all) n called w)
         (ran_again z a d W part (execute (Switch e all) n called w)
         (λ m. ran_switch e all a d W h.0 h.1 sits
-        (λ key V is v' w' k' m'. ran_sections all (within a d) d 1 key V h.0 is h.2 (in_switch a d h.0 sits) v' w' k' m') (opened v) w k m))
+        (λ key V is v' w' k' m'. ran_grouped (count_of (sections_lowered (within a d) d 1 all)) all (within a d) d 0 key V h.0 is (ran_bodies all (within a d) d V h.2 (in_switch a d h.0 sits)) v' w' k' m') (opened v) w k m))
 
     pub ran_all : (all : WideStmts) (a : Around) (d : ℕ) (W : ℕ → Option ℕ) → AllLower z.names a d all → Sits z a d → (v w : Visible) → AlikeIn v w
         → RanIn z Any a d W (plain.execute_all (all_lowered a d all) n call v) (execute_all all n called w)
@@ -259,14 +336,6 @@ module _ (z : Shape) (call called : Calls) (sees : SeesNone call called) (n : �
         (ran_execute first a d W h.0 sits v w k f H b t g tt)
         (ran_all rest a d W h.1 sits (scope_behind (lowered a d first) v) (wide_scope_behind first w) (alike_behind first a d v w k))
 
-    pub ran_sections : (all : Sections) (a : Around) (d i key : ℕ) (V : ℕ → Option ℕ) → d < z.names → V d ≡ Some key → SectionsLower z.names a (suc d) all → Sits z a (suc d) → (v w : Visible) → AlikeIn v w → (N : ℕ)
-        → RanIn z (Most N) a (suc d) V (plain.execute_all (sections_lowered a d i all) n call v) (execute_from all i key n called w)
-    ran_sections last a d i key V below is h sits v w k N = ran_falls z (Most N) a (suc d) V
-    ran_sections (section ls body rest) a d i key V below is h sits v w k N = λ f H b t g q.
-        ran_next z (Most N) a (suc d) V (plain.execute (tree.If (at_most d i) (tree.Block (all_lowered a (suc d) body))) n call v (at t (f ++ (H ++ b))))
-        ((if nat_le key i then in_block (execute_all body n called (opened w)) else (λ u. Gives Falls u)) (at t (f ++ b)))
-        (plain.execute_all (sections_lowered a d (suc i) rest) n call v) (execute_from rest (suc i) key n called w)
-        (ran_section a d i key V below is v (all_lowered a (suc d) body) (in_block (execute_all body n called (opened w))) N
-        (λ m. ran_shut z a (suc d) V (plain.execute_all (all_lowered a (suc d) body) n call (opened (opened v))) (execute_all body n called (opened w))
-        (ran_all body a (suc d) V h.0 sits (opened (opened v)) (opened w) k) m) f H b t g q)
-        (ran_sections rest a d (suc i) key V below is h.1 sits v w k N)
+    ran_bodies : (all : Sections) (a : Around) (d : ℕ) (V : ℕ → Option ℕ) → SectionsLower z.names a (suc d) all → Sits z a (suc d) → BodiesRan all a d V
+    ran_bodies last a d V h sits = tt
+    ran_bodies (section ls body rest) a d V h sits = (λ v w k. ran_all body a (suc d) V h.0 sits v w k, ran_bodies rest a d V h.1 sits)

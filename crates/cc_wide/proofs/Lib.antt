@@ -9,6 +9,10 @@ pub mod Expressions
 pub mod Landing
 -- actions and declarations
 pub mod Statements
+-- the choice of a section
+pub mod Choosing
+-- groups of sections
+pub mod Groups
 -- statements
 pub mod Executing
 -- functions, calls and programs

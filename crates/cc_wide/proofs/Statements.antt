@@ -1,10 +1,10 @@
 -- A lowered statement does what the wide one does.
-use Rattle.std.proofs.Common.{◌≡◌, ℕ, suc, ◌-◌, ◌<◌, Bool, true, false, ◌==◌, if◌then◌else◌, List, [], ◌∷◌, ◌++◌, length, drop, nat_le, nat_lt, Option, Some, None, is_some, unwrap_or, slice_get, refl, sym, ap, ◌∙◌, subst, arith, length-append}
+use Rattle.std.proofs.Common.{◌≡◌, ℕ, suc, ◌-◌, ◌<◌, Bool, true, false, if◌then◌else◌, List, [], ◌∷◌, ◌++◌, length, drop, nat_le, nat_lt, Option, Some, None, is_some, unwrap_or, slice_get, refl, sym, ap, ◌∙◌, subst, arith, length-append}
 use Rattle.cc_words.specs.Words.{truth_value}
 use Rattle.cc_ast.specs.scalar.Scalar.{Scalar}
 use Rattle.cc_ast.specs.scalar.Scalar.TheVariants.{Int, Unsigned}
 use Rattle.cc_ast.specs.declared.ast.BinaryOperator.{BinaryOperator}
-use Rattle.cc_ast.specs.declared.ast.BinaryOperator.TheVariants.{LessOrEqual}
+use Rattle.cc_ast.specs.declared.ast.BinaryOperator.TheVariants.{Less, LessOrEqual}
 use Rattle.cc_ast.specs.Tree as tree
 use Rattle.cc_ast.specs.Tree.{Expr, Number, Target, AtVariable, AtElement, Action, Assign, Step, Evaluate, Declarator, Beginning, Declares, Performs, Stmt, Stmts}
 use Rattle.cc_types.specs.Names.{same_name}
@@ -17,8 +17,8 @@ use Rattle.cc_c_semantics.specs.Meaning as plain
 use Rattle.cc_c_semantics.specs.Meaning.{Local, Global, State, Run, Gives, Going, Wrong, Flow, Falls, Breaks, Continues, Returns, then_do, choose, Calls, local_word, with_local_word, global_words, with_element, variable_word, stored, evaluate, evaluate_or, Destination, ToVariable, ToElement, destination, new_value, write, perform, perform_optional, spend_of, behind_flow, behind_body, begin_body, turns, with_local, declare, start, left_scope, in_block, return}
 use Rattle.cc_wide.specs.WideTree as source
 use Rattle.cc_wide.specs.WideTree.{Label, Case, Default, WideStmt, Block, Perform, Return, Break, Continue, If, IfElse, While, DoWhile, For, Switch, WideStmts, end, next, Sections, last, section}
-use Rattle.cc_wide.specs.WideMeaning.{label_word, has_case, has_default, section_with, past, default_of, entry, wide_scope_behind}
-use Rattle.cc_wide.specs.Lowering.{is_reserved, hidden_name, Around, Outside, Loop, Caught, at_most, chain_of_labels, chain_of, continuing, lowered, OptionalIsOwn, ExprIsOwn, ActionIsOwn, OptionalActionIsOwn, DeclaratorsAreOwn, BeginningIsOwn, MayContinue}
+use Rattle.cc_wide.specs.WideMeaning.{has_case, has_default, section_with, past, default_of, entry, wide_scope_behind}
+use Rattle.cc_wide.specs.Lowering.{is_reserved, hidden_name, Around, Outside, Loop, Caught, less_than, at_most, continuing, lowered, OptionalIsOwn, ExprIsOwn, ActionIsOwn, OptionalActionIsOwn, DeclaratorsAreOwn, BeginningIsOwn, MayContinue}
 use Rattle.cc_wide.proofs.Locals.{own_word, Stores, stores, hidden_word, hidden_store, word_stored, store_count}
 use Rattle.cc_wide.proofs.Expressions.{at, Twin, SeesNone, Alike, alike_types, tw_new, tw_evaluate, tw_or}
 use Rattle.cc_wide.proofs.Landing.{Shape, Fits, put_fits, Sits, Any, Ran, RanIn, left_falls, left_returns, ran_falls, twin_ran, ran_skip}
@@ -78,27 +78,6 @@ word_hidden z d W f H b s c w lt h e =
 
 -- ---- the section with which a switch goes on
 
-labels_by : (bs : List Binding) (call : Calls) (s : State) (d i w : ℕ) (c : Bool) (other : Expr) (n : ℕ) (rest : List Label)
-    → evaluate (chain_of_labels d i rest other) bs call s ≡ Gives (if has_case w rest then i else n) s
-    → choose (truth_value c) (λ t. Gives i t) (evaluate (chain_of_labels d i rest other) bs call) s ≡ Gives (if (if c then true else has_case w rest) then i else n) s
-labels_by bs call s d i w true other n rest e = refl
-labels_by bs call s d i w false other n rest e = e
-
-labels_chain : (bs : List Binding) (call : Calls) (s : State) (d i w : ℕ) → variable_word (hidden_name d) s ≡ w → (ls : List Label) (other : Expr) (n : ℕ) → evaluate other bs call s ≡ Gives n s
-    → evaluate (chain_of_labels d i ls other) bs call s ≡ Gives (if has_case w ls then i else n) s
-labels_chain bs call s d i w is [] other n e = e
-labels_chain bs call s d i w is (Case c ∷ rest) other n e =
-    ap (λ (x : ℕ). choose (truth_value (x == label_word c)) (λ t. Gives i t) (evaluate (chain_of_labels d i rest other) bs call) s) is
-    ∙ labels_by bs call s d i w (w == label_word c) other n rest (labels_chain bs call s d i w is rest other n e)
-labels_chain bs call s d i w is (Default ∷ rest) other n e = labels_chain bs call s d i w is rest other n e
-
--- the chain's value is the number of the section with which the switch goes on
-pub chain_value : (bs : List Binding) (call : Calls) (s : State) (d w : ℕ) → variable_word (hidden_name d) s ≡ w → (all : Sections) (i n : ℕ)
-    → evaluate (chain_of d i all n) bs call s ≡ Gives (section_with (has_case w) i all n) s
-chain_value bs call s d w is last i n = refl
-chain_value bs call s d w is (section ls body rest) i n =
-    labels_chain bs call s d i w is ls (chain_of d (suc i) rest n) (section_with (has_case w) (suc i) rest n) (chain_value bs call s d w is rest (suc i) n)
-
 -- the number is not 0
 positive_by : (c : Bool) (i n : ℕ) → 0 < i → 0 < n → 0 < (if c then i else n)
 positive_by true i n h k = h
@@ -128,6 +107,15 @@ pub test_at_most : (bs : List Binding) (call : Calls) (s : State) (d i k : ℕ) 
 test_at_most bs call s d i k is =
     given_at_most (variable_word (hidden_name d) s) i (common_type (variable_type (found bs (hidden_name d))) Unsigned) s (unsigned_common (variable_type (found bs (hidden_name d))))
     ∙ ap (λ (x : ℕ). Gives (truth_value (nat_le x i)) s) is
+
+given_less : (x m : ℕ) (t : Scalar) (s : State) → t ≡ Unsigned → plain.given Less (binary_word Less t x m) s ≡ Gives (truth_value (nat_lt x m)) s
+given_less x m t s e = ap (λ (u : Scalar). plain.given Less (binary_word Less u x m) s) e
+
+-- the test of a choice that is halved
+pub test_less : (bs : List Binding) (call : Calls) (s : State) (d m w : ℕ) → variable_word (hidden_name d) s ≡ w → evaluate (less_than d m) bs call s ≡ Gives (truth_value (nat_lt w m)) s
+test_less bs call s d m w is =
+    given_less (variable_word (hidden_name d) s) m (common_type (variable_type (found bs (hidden_name d))) Unsigned) s (unsigned_common (variable_type (found bs (hidden_name d))))
+    ∙ ap (λ (x : ℕ). Gives (truth_value (nat_lt x m)) s) is
 
 -- ---- assignments and declarations
 
@@ -243,7 +231,7 @@ module _ (z : Shape) (d : ℕ) (W : ℕ → Option ℕ) where
 -- ---- continue
 
 -- a scope that leaves its locals as many as they were leaves them all
-put_block : (f H b : List Local) (c w : ℕ) (s : State) → left_scope (length (f ++ (H ++ b))) (at s (f ++ (with_local_word (hidden_name c) w H ++ b))) ≡ at s (f ++ (with_local_word (hidden_name c) w H ++ b))
+pub put_block : (f H b : List Local) (c w : ℕ) (s : State) → left_scope (length (f ++ (H ++ b))) (at s (f ++ (with_local_word (hidden_name c) w H ++ b))) ≡ at s (f ++ (with_local_word (hidden_name c) w H ++ b))
 put_block f H b c w s =
     let H' = with_local_word (hidden_name c) w H in
     let p = length-append f (H ++ b) in

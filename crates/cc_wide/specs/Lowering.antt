@@ -1,9 +1,9 @@
 -- How a program of wide C becomes one of C. A switch becomes a loop of one turn, in which `break` ends it. A function's switches keep the
 -- number of the section with which they go on in locals of their own: the switches inside d others have local number d. These are declared
 -- before all other locals of the body, and their names begin with two underscores, as no name of the program does (C99 7.1.3).
-use Rattle.std.specs.Prelude.{◌≡◌, ℕ, zero, suc, ◌<◌, max, Bool, false, ◌&&◌, ◌==◌, List, [], ◌∷◌, map, Option, Some, None}
+use Rattle.std.specs.Prelude.{◌≡◌, ℕ, zero, suc, ◌+◌, ◌/◌, ◌<◌, max, nat_lt, nat_le, Bool, true, false, ◌&&◌, ◌==◌, if◌then◌else◌, List, [], ◌∷◌, map, Option, Some, None}
 use Rattle.cc_ast.specs.scalar.Scalar.TheVariants.{Unsigned, Int}
-use Rattle.cc_ast.specs.declared.ast.BinaryOperator.TheVariants.{Equal, LessOrEqual}
+use Rattle.cc_ast.specs.declared.ast.BinaryOperator.TheVariants.{Equal, Less, LessOrEqual}
 use Rattle.cc_ast.specs.declared.ast.AssignmentOperator.TheVariants.{Plain}
 use Rattle.cc_ast.specs.Tree as tree
 use Rattle.cc_ast.specs.Tree.{Name, Expr, Exprs, none, more, Number, Variable, Element, Call, Parenthesised, Unary, Cast, Binary, Conditional, Target, AtVariable, AtElement, Action, Assign, Step, Evaluate, Declarator, Beginning, Declares, Performs, Stmt, Stmts, Parameter, Signature, External}
@@ -42,22 +42,113 @@ pub data Around : Type 0 where
 abbrev pub sets : ℕ → Expr → Stmt
 sets d e = tree.Perform (Some (Assign Plain (AtVariable (hidden d)) e))
 
--- x == n, x <= n
+-- x == n, x < n, x <= n
 abbrev pub equals : ℕ → ℕ → Expr
 equals d n = Binary Equal (Variable (hidden d)) (Number Unsigned n)
+
+abbrev pub less_than : ℕ → ℕ → Expr
+less_than d n = Binary Less (Variable (hidden d)) (Number Unsigned n)
 
 abbrev pub at_most : ℕ → ℕ → Expr
 at_most d n = Binary LessOrEqual (Variable (hidden d)) (Number Unsigned n)
 
--- the number of the section with which the switch goes on, given the word in local d: x == c ? i : ..
-abbrev pub chain_of_labels : (d i : ℕ) → List Label → Expr → Expr
-chain_of_labels d i [] other = other
-chain_of_labels d i (Case c ∷ rest) other = Conditional (equals d (label_word c)) (Number Unsigned i) (chain_of_labels d i rest other)
-chain_of_labels d i (Default ∷ rest) other = chain_of_labels d i rest other
+-- ---- the choice of a section
 
-abbrev pub chain_of : (d i : ℕ) → Sections → (default : ℕ) → Expr
-chain_of d i last n = Number Unsigned n
-chain_of d i (section ls body rest) n = chain_of_labels d i ls (chain_of d (suc i) rest n)
+-- a case: its label's word, and the number of its section
+pub record Entry : Type 0 where
+  pub word : ℕ
+  pub number : ℕ
+
+-- the cases of a switch, in the order of their labels, if the first section has number i
+abbrev pub cases_of_labels : (i : ℕ) → List Label → List Entry → List Entry
+cases_of_labels i [] rest = rest
+cases_of_labels i (Case c ∷ ls) rest = record { word = label_word c; number = i } ∷ cases_of_labels i ls rest
+cases_of_labels i (Default ∷ ls) rest = cases_of_labels i ls rest
+
+abbrev pub cases_of : (i : ℕ) → Sections → List Entry
+cases_of i last = []
+cases_of i (section ls body rest) = cases_of_labels i ls (cases_of (suc i) rest)
+
+abbrev pub words_of : List Entry → List ℕ
+words_of cs = map (λ (c : Entry). c.word) cs
+
+-- the word is at least this one, and below the other, if there is one
+abbrev pub is_below : Option ℕ → ℕ → Bool
+is_below None w = true
+is_below (Some high) w = nat_lt w high
+
+abbrev pub in_range : (low : ℕ) → (high : Option ℕ) → ℕ → Bool
+in_range low high w = nat_le low w && is_below high w
+
+-- how many of the words are in the range
+abbrev pub count_in : (low : ℕ) → (high : Option ℕ) → List ℕ → ℕ
+count_in low high [] = 0
+count_in low high (w ∷ ws) = if in_range low high w then suc (count_in low high ws) else count_in low high ws
+
+-- the first word in the range with so many words of the range below it; 0 if there is none
+abbrev pub middle_from : (low : ℕ) → (high : Option ℕ) → (below : ℕ) → (all : List ℕ) → List ℕ → ℕ
+middle_from low high below all [] = 0
+middle_from low high below all (w ∷ ws) =
+    if in_range low high w && (count_in low (Some w) all == below) then w else middle_from low high below all ws
+
+abbrev pub middle : (low : ℕ) → (high : Option ℕ) → List ℕ → ℕ
+middle low high ws = middle_from low high (count_in low high ws / 2) ws ws
+
+-- the number of the section with which the switch goes on, given that the word in local d is in the range: x == c ? i : ..
+abbrev pub chain : (d default low : ℕ) → (high : Option ℕ) → List Entry → Expr
+chain d n low high [] = Number Unsigned n
+chain d n low high (c ∷ cs) =
+    if in_range low high c.word then Conditional (equals d c.word) (Number Unsigned c.number) (chain d n low high cs) else chain d n low high cs
+
+-- how many cases are tried one after another, and how many sections
+abbrev pub few_cases : ℕ
+few_cases = 4
+
+abbrev pub few_sections : ℕ
+few_sections = 8
+
+-- The word in local d, which is in the range, becomes that number. If the range has more than a few cases, it is halved: if (x < m) .. else ..
+abbrev pub choice : (levels : ℕ) → (d default low : ℕ) → (high : Option ℕ) → List Entry → Stmt
+choice zero d n low high cs = sets d (chain d n low high cs)
+choice (suc levels) d n low high cs =
+    if nat_le (count_in low high (words_of cs)) few_cases then sets d (chain d n low high cs)
+    else tree.IfElse (less_than d (middle low high (words_of cs))) (choice levels d n low (Some (middle low high (words_of cs))) cs) (choice levels d n (middle low high (words_of cs)) high cs)
+
+-- among all cases of a switch; there are no more levels than cases
+abbrev pub choice_of : (d : ℕ) → Sections → Stmt
+choice_of d all = choice (count_in 0 None (words_of (cases_of 1 all))) d (default_of all) 0 None (cases_of 1 all)
+
+-- ---- groups of sections
+
+abbrev pub count_of : Stmts → ℕ
+count_of tree.end = 0
+count_of (tree.next s rest) = suc (count_of rest)
+
+-- the first h statements, and those after them
+abbrev pub first_of : (h : ℕ) → Stmts → Stmts
+first_of zero ss = tree.end
+first_of (suc h) tree.end = tree.end
+first_of (suc h) (tree.next s rest) = tree.next s (first_of h rest)
+
+abbrev pub after_first : (h : ℕ) → Stmts → Stmts
+after_first zero ss = ss
+after_first (suc h) tree.end = tree.end
+after_first (suc h) (tree.next s rest) = after_first h rest
+
+-- The sections after number i. If they are more than a few, the first half of them is a group, which is entered if one of its sections
+-- is executed.
+abbrev pub grouped : (levels : ℕ) → (d i : ℕ) → Stmts → Stmts
+grouped zero d i ss = ss
+grouped (suc levels) d i ss =
+    if nat_le (count_of ss) few_sections then ss
+    else tree.next (tree.If (at_most d (i + count_of ss / 2)) (tree.Block (grouped levels d i (first_of (count_of ss / 2) ss))))
+    (grouped levels d (i + count_of ss / 2) (after_first (count_of ss / 2) ss))
+
+-- all sections of a switch; there are no more levels than sections
+abbrev pub groups_of : (d : ℕ) → Stmts → Stmts
+groups_of d ss = grouped (count_of ss) d 0 ss
+
+-- ---- around a switch
 
 -- a `continue` that has to leave a switch writes the number 0 first, which no section has
 abbrev pub continuing : Around → ℕ → Stmt
@@ -92,8 +183,8 @@ abbrev mutual
   lowered a d (DoWhile s c) = tree.DoWhile (lowered Loop d s) c
   lowered a d (For first c behind s) = tree.For first c behind (lowered Loop d s)
   lowered a d (Switch e all) =
-      tree.Block (tree.next (sets d e) (tree.next (sets d (chain_of d 1 all (default_of all)))
-      (tree.next (tree.DoWhile (tree.Block (sections_lowered (within a d) d 1 all)) (Number Int 0)) (after a d))))
+      tree.Block (tree.next (sets d e) (tree.next (choice_of d all)
+      (tree.next (tree.DoWhile (tree.Block (groups_of d (sections_lowered (within a d) d 1 all))) (Number Int 0)) (after a d))))
 
   pub all_lowered : Around → ℕ → WideStmts → Stmts
   all_lowered a d end = tree.end

@@ -10,6 +10,8 @@ pub mod Switches
 pub mod Lowering
 -- the choice and the sections of a switch
 pub mod Sections
+-- groups of sections
+pub mod Grouping
 -- the rules of labels
 pub mod Rules
 -- units

@@ -36,33 +36,33 @@ one_more : (n : ℕ) → suc n ≡ n + 1
 one_more n = omega arith
 
 -- a section begins
-pub opened-read : (d n : ℕ) (ifs : List Statement) (s : Statement) (body : List Statement) (go : ℕ → Bool → Stmts → Stmts → Bool) (l : Stmts) → n < length ifs → s ≡ get_or ifs n s
+pub opened-read : (d n i : ℕ) (ifs : List Statement) (s : Statement) (body : List Statement) (go : ℕ → Bool → Stmts → Stmts → Bool) (l : Stmts) → i < length ifs → s ≡ get_or ifs i s
     → opened_first d (n + 1) (bare_statement (statement_tree s)) ≡ Some (bare_of body) → is_end l ≡ true
-    → label_step d go n false l (bare_of (drop n ifs)) ≡ go (n + 1) true (bare_of body) (bare_of (drop (n + 1) ifs))
-opened-read d n ifs s body go l less is h e =
-    ap (λ b. b && opened d (suc n) (go (suc n) true) (bare_of (drop n ifs))) e
-    ∙ ap (λ k. opened d (suc n) (go (suc n) true) (bare_of k)) (drop-item ifs n s less is)
-    ∙ ap (λ m. go_through (λ body. go m true body (bare_of (drop (n + 1) ifs))) (opened_first d m (bare_statement (statement_tree s)))) (one_more n)
-    ∙ ap (go_through (λ body. go (n + 1) true body (bare_of (drop (n + 1) ifs)))) h
+    → label_step d go n false l (bare_of (drop i ifs)) ≡ go (n + 1) true (bare_of body) (bare_of (drop (i + 1) ifs))
+opened-read d n i ifs s body go l less is h e =
+    ap (λ b. b && opened d (suc n) (go (suc n) true) (bare_of (drop i ifs))) e
+    ∙ ap (λ k. opened d (suc n) (go (suc n) true) (bare_of k)) (drop-item ifs i s less is)
+    ∙ ap (λ m. go_through (λ body. go m true body (bare_of (drop (i + 1) ifs))) (opened_first d m (bare_statement (statement_tree s)))) (one_more n)
+    ∙ ap (go_through (λ body. go (n + 1) true body (bare_of (drop (i + 1) ifs)))) h
 
-pub unopened-read : (d n : ℕ) (ifs : List Statement) (s : Statement) (go : ℕ → Bool → Stmts → Stmts → Bool) (l : Stmts) → n < length ifs → s ≡ get_or ifs n s
-    → opened_first d (n + 1) (bare_statement (statement_tree s)) ≡ None → label_step d go n false l (bare_of (drop n ifs)) ≡ false
-unopened-read d n ifs s go l less is h =
-    and_right (is_end l) (opened d (suc n) (go (suc n) true) (bare_of (drop n ifs)))
-    (ap (λ k. opened d (suc n) (go (suc n) true) (bare_of k)) (drop-item ifs n s less is)
-    ∙ ap (λ m. go_through (λ body. go m true body (bare_of (drop (n + 1) ifs))) (opened_first d m (bare_statement (statement_tree s)))) (one_more n)
-    ∙ ap (go_through (λ body. go (n + 1) true body (bare_of (drop (n + 1) ifs)))) h)
+pub unopened-read : (d n i : ℕ) (ifs : List Statement) (s : Statement) (go : ℕ → Bool → Stmts → Stmts → Bool) (l : Stmts) → i < length ifs → s ≡ get_or ifs i s
+    → opened_first d (n + 1) (bare_statement (statement_tree s)) ≡ None → label_step d go n false l (bare_of (drop i ifs)) ≡ false
+unopened-read d n i ifs s go l less is h =
+    and_right (is_end l) (opened d (suc n) (go (suc n) true) (bare_of (drop i ifs)))
+    (ap (λ k. opened d (suc n) (go (suc n) true) (bare_of k)) (drop-item ifs i s less is)
+    ∙ ap (λ m. go_through (λ body. go m true body (bare_of (drop (i + 1) ifs))) (opened_first d m (bare_statement (statement_tree s)))) (one_more n)
+    ∙ ap (go_through (λ body. go (n + 1) true body (bare_of (drop (i + 1) ifs)))) h)
 
 -- no section is left
-pub ended-read : (d n : ℕ) (ifs : List Statement) (go : ℕ → Bool → Stmts → Stmts → Bool) (l : Stmts) → length ifs ≤ n → label_step d go n false l (bare_of (drop n ifs)) ≡ false
-ended-read d n ifs go l long =
-    and_right (is_end l) (opened d (suc n) (go (suc n) true) (bare_of (drop n ifs)))
+pub ended-read : (d n i : ℕ) (ifs : List Statement) (go : ℕ → Bool → Stmts → Stmts → Bool) (l : Stmts) → length ifs ≤ i → label_step d go n false l (bare_of (drop i ifs)) ≡ false
+ended-read d n i ifs go l long =
+    and_right (is_end l) (opened d (suc n) (go (suc n) true) (bare_of (drop i ifs)))
     (ap (λ k. opened d (suc n) (go (suc n) true) (bare_of k)) (drop_of_length-le ifs long))
 
 -- the section that has begun is not at its end
-pub unended-read : (d n : ℕ) (ifs : List Statement) (go : ℕ → Bool → Stmts → Stmts → Bool) (body : List Statement) (i : ℕ) → i < length body
-    → label_step d go n false (bare_of (drop i body)) (bare_of (drop n ifs)) ≡ false
-unended-read d n ifs go body i less = ap (λ b. b && opened d (suc n) (go (suc n) true) (bare_of (drop n ifs))) (something-left body i less)
+pub unended-read : (d n i : ℕ) (ifs : List Statement) (go : ℕ → Bool → Stmts → Stmts → Bool) (body : List Statement) (j : ℕ) → j < length body
+    → label_step d go n false (bare_of (drop j body)) (bare_of (drop i ifs)) ≡ false
+unended-read d n i ifs go body j less = ap (λ b. b && opened d (suc n) (go (suc n) true) (bare_of (drop i ifs))) (something-left body j less)
 
 -- a statement of a section
 pub statement-read : (s : Stmt) (go : Stmts → Stmts → Bool) (ifs : Stmts) (body : List Statement) (i : ℕ) (x : Statement) → i < length body → x ≡ get_or body i x

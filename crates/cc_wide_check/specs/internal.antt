@@ -9,6 +9,8 @@ pub mod Switches
 pub mod Labels
 -- the choice and the sections of a switch
 pub mod Sections
+-- where the sections of a block begin
+pub mod Groups
 -- the code's values
 pub mod Views
 -- units

@@ -7,6 +7,7 @@ mod checking;
 mod choices;
 mod constants;
 mod expressions;
+mod groups;
 mod hidden;
 mod labels;
 mod lowers;

@@ -90,8 +90,8 @@ pub(crate) fn label_of(s: &Statement) -> Option<Label<'_>>
     }
 }
 
-// Whether a list of statements is empty or begins with a label.
-fn begins(all: &[Statement]) -> bool
+/// Whether a list of statements is empty or begins with a label.
+pub(crate) fn begins(all: &[Statement]) -> bool
     ensures { result ≡ begins (statements_of all.now) }
 {
     match all {

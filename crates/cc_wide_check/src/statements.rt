@@ -7,17 +7,18 @@ ghost use Rattle.cc_ast.specs.Tree as tree;
 ghost use Rattle.cc_wide.specs.Places.{bare, bare_statement, bare_statements};
 ghost use Rattle.cc_wide.specs.Lowering.{Loop, lowered, all_lowered};
 ghost use Rattle.cc_wide.specs.WideTree as wide;
-ghost use Rattle.cc_wide_text.specs.Forms.{wide_statement};
+ghost use Rattle.cc_wide_text.specs.Forms.{parts_of, wide_statement};
 ghost use Rattle.cc_wide_check.specs.internal.Equal.{equal_statement, equal_statements};
-ghost use Rattle.cc_wide_check.specs.internal.Sections.{opened_first, statement_step, label_step, block_of, are_sections, run_of, is_value, is_chosen, parts, of_block, of_switch};
+ghost use Rattle.cc_wide_check.specs.internal.Sections.{opened_first, statement_step, label_step, block_of, are_sections, are_grouped, are_halved, section_count, run_of, is_run, is_value, is_chosen, parts, of_block, of_switch};
 ghost use Rattle.cc_wide_check.specs.internal.Views.{around_of, wide_of, left, sections_left};
 
 use super::actions::{same_beginning, same_declarators, same_optional_action};
 use super::around::{Around, within};
-use super::choices::{default_number, is_choice};
+use super::choices::{are_few, count_in, default_number, is_choice};
 use super::expressions::{same_expression, same_optional};
+use super::groups::{FEW_SECTIONS, cut, section_count};
 use super::hidden::{assigned, come_after, continues, is_number, is_test};
-use super::marks::{is_switch, label_of};
+use super::marks::{begins, is_switch, label_of};
 use super::operators::same_scalar;
 use cc_ast::{BinaryOperator, Expression, Scalar, Statement};
 
@@ -147,13 +148,25 @@ fn same_parts(
             if !is_chosen(depth, all, chosen) {
                 return false;
             }
-            let Some(ifs) = run_of(run) else {
-                return false;
-            };
-            same_sections(within(around, depth), depth, all, ifs) && come_after(around, depth, rest)
+            same_run(within(around, depth), depth, all, run) && come_after(around, depth, rest)
         }
         [] | [_] | [_, _] => false,
     }
+}
+
+// Whether a statement is the loop with the sections of a marked block.
+#[cycle(statements)]
+fn same_run(around: Around, depth: usize, all: &[Statement], run: &Statement) -> bool
+    requires { depth + 1 < 2 ^ 64 }
+    ensures { result ≡ is_run (around_of around) depth (wide_of all.now) (bare_statement (statement_tree run.now)) }
+{
+    let Some(ifs) = run_of(run) else {
+        return false;
+    };
+    if !begins(all) {
+        return false;
+    }
+    same_groups(around, depth, section_count(all), 0, all, ifs)
 }
 
 // Whether a statement keeps the value of a switch's expression in its local.
@@ -171,10 +184,8 @@ fn is_value(depth: usize, e: &Expression, s: &Statement) -> bool
 fn is_chosen(depth: usize, all: &[Statement], s: &Statement) -> bool
     ensures { result ≡ is_chosen depth (wide_of all.now) (bare_statement (statement_tree s.now)) }
 {
-    match assigned(depth, s) {
-        Some(e) => is_choice(depth, default_number(all), all, e),
-        None => false,
-    }
+    let default = default_number(all);
+    is_choice(count_in(0, None, all), depth, default, 0, None, all, s)
 }
 
 // The statements of a block.
@@ -219,11 +230,13 @@ fn opened(depth: usize, number: usize, s: &Statement) -> Option<&[Statement]>
     }
 }
 
-// How far the statements of a marked block have been read: how many sections have begun, whether a label was read last, and the
-// statements of the section that has begun, with the number of those that have been compared.
+// How far the statements of a marked block have been read: the number of the last section that has begun, how many of the lowered
+// sections have begun, whether a label was read last, and the statements of the section that has begun, with the number of those that have
+// been compared.
 #[derive(Clone, Copy)]
 struct Reading<'a> {
     sections: usize,
+    next: usize,
     label: bool,
     body: &'a [Statement],
     done: usize,
@@ -231,19 +244,21 @@ struct Reading<'a> {
 
 // After a label.
 fn after_label<'a>(depth: usize, reading: Reading<'a>, ifs: &'a [Statement]) -> Option<Reading<'a>>
-    requires { reading.sections ≤ length ifs.now }
+    requires few { reading.next ≤ length ifs.now }
+    requires room { reading.sections + length ifs.now < 2 ^ 64 + reading.next }
     ensures read { (go : ℕ → Bool → tree.Stmts → tree.Stmts → Bool) → MatchOption result (label_step depth go reading.entry.sections reading.entry.label (left reading.entry) (sections_left reading.entry ifs.now) ≡ false) (λ r. label_step depth go reading.entry.sections reading.entry.label (left reading.entry) (sections_left reading.entry ifs.now) ≡ go r.sections r.label (left r) (sections_left r ifs.now)) }
-    ensures within { MatchOption result (Unit {0}) (λ r. (r.sections ≤ length ifs.now)) }
+    ensures within { MatchOption result (Unit {0}) (λ r. (r.next ≤ length ifs.now) × (r.sections + length ifs.now < 2 ^ 64 + r.next)) }
 {
     if reading.label {
         return Some(reading);
     }
-    if reading.done < reading.body.len() || reading.sections == ifs.len() {
+    if reading.done < reading.body.len() || reading.next == ifs.len() {
         return None;
     }
-    let body = opened(depth, reading.sections + 1, &ifs[reading.sections])?;
+    let body = opened(depth, reading.sections + 1, &ifs[reading.next])?;
     Some(Reading {
         sections: reading.sections + 1,
+        next: reading.next + 1,
         label: true,
         body,
         done: 0,
@@ -260,7 +275,7 @@ fn after_statement<'a>(
 ) -> Option<Reading<'a>>
     requires { depth + 1 < 2 ^ 64 }
     ensures read { (go : tree.Stmts → tree.Stmts → Bool) (ifs : tree.Stmts) → MatchOption result (statement_step (bare_statement (lowered (around_of around) (suc depth) (wide_statement (statement_tree s.now)))) go (left reading.entry) ifs ≡ false) (λ r. statement_step (bare_statement (lowered (around_of around) (suc depth) (wide_statement (statement_tree s.now)))) go (left reading.entry) ifs ≡ go (left r) ifs) }
-    ensures kept { MatchOption result (Unit {0}) (λ r. (r.sections ≡ reading.entry.sections) × (r.label ≡ false)) }
+    ensures kept { MatchOption result (Unit {0}) (λ r. (r.sections ≡ reading.entry.sections) × (r.next ≡ reading.entry.next) × (r.label ≡ false)) }
 {
     if reading.done >= reading.body.len() {
         return None;
@@ -270,6 +285,7 @@ fn after_statement<'a>(
     }
     Some(Reading {
         sections: reading.sections,
+        next: reading.next,
         label: false,
         body: reading.body,
         done: reading.done + 1,
@@ -286,9 +302,10 @@ fn after<'a>(
     ifs: &'a [Statement],
 ) -> Option<Reading<'a>>
     requires low { depth + 1 < 2 ^ 64 }
-    requires few { reading.sections ≤ length ifs.now }
+    requires few { reading.next ≤ length ifs.now }
+    requires room { reading.sections + length ifs.now < 2 ^ 64 + reading.next }
     ensures read { (rest : wide.WideStmts) → MatchOption result (are_sections (around_of around) depth reading.entry.sections reading.entry.label (wide.next (wide_statement (statement_tree s.now)) rest) (left reading.entry) (sections_left reading.entry ifs.now) ≡ false) (λ r. are_sections (around_of around) depth reading.entry.sections reading.entry.label (wide.next (wide_statement (statement_tree s.now)) rest) (left reading.entry) (sections_left reading.entry ifs.now) ≡ are_sections (around_of around) depth r.sections r.label rest (left r) (sections_left r ifs.now)) }
-    ensures within { MatchOption result (Unit {0}) (λ r. (r.sections ≤ length ifs.now)) }
+    ensures within { MatchOption result (Unit {0}) (λ r. (r.next ≤ length ifs.now) × (r.sections + length ifs.now < 2 ^ 64 + r.next)) }
 {
     if label_of(s).is_some() {
         after_label(depth, reading, ifs)
@@ -297,14 +314,22 @@ fn after<'a>(
     }
 }
 
-// Whether the statements are the sections of a switch.
+// Whether the statements are the sections after number `before` of a switch, one after another.
 #[cycle(statements)]
-fn same_sections(around: Around, depth: usize, all: &[Statement], ifs: &[Statement]) -> bool
-    requires { depth + 1 < 2 ^ 64 }
-    ensures { result ≡ are_sections (around_of around) depth 0 false (wide_of all.now) tree.end (bare_statements (statements_of ifs.now)) }
+fn same_sections(
+    around: Around,
+    depth: usize,
+    before: usize,
+    all: &[Statement],
+    ifs: &[Statement],
+) -> bool
+    requires low { depth + 1 < 2 ^ 64 }
+    requires room { before < 2 ^ 63 }
+    ensures { result ≡ are_sections (around_of around) depth before false (wide_of all.now) tree.end (bare_statements (statements_of ifs.now)) }
 {
     let mut reading = Reading {
-        sections: 0,
+        sections: before,
+        next: 0,
         label: false,
         body: &[],
         done: 0,
@@ -315,5 +340,57 @@ fn same_sections(around: Around, depth: usize, all: &[Statement], ifs: &[Stateme
             None => return false,
         }
     }
-    reading.done >= reading.body.len() && reading.sections == ifs.len()
+    reading.done >= reading.body.len() && reading.next == ifs.len()
+}
+
+// Whether the statements are the sections after number `before` of a switch, in groups of at most so many levels.
+#[cycle(statements)]
+fn same_groups(
+    around: Around,
+    depth: usize,
+    levels: usize,
+    before: usize,
+    all: &[Statement],
+    ifs: &[Statement],
+) -> bool
+    requires low { depth + 1 < 2 ^ 64 }
+    requires enters { (parts_of (wide_of all.now)).front ≡ wide.end }
+    requires room { before + section_count (wide_of all.now) < 2 ^ 63 }
+    ensures { result ≡ are_grouped (around_of around) levels depth before (wide_of all.now) (bare_statements (statements_of ifs.now)) }
+{
+    let count = section_count(all);
+    if are_few(levels, FEW_SECTIONS, count) {
+        return same_sections(around, depth, before, all, ifs);
+    }
+    same_halves(around, depth, levels - 1, before, count / 2, all, ifs)
+}
+
+// Whether the statements are the sections after number `before` of a switch, the first half of them in a group.
+#[cycle(statements)]
+fn same_halves(
+    around: Around,
+    depth: usize,
+    levels: usize,
+    before: usize,
+    half: usize,
+    all: &[Statement],
+    ifs: &[Statement],
+) -> bool
+    requires low { depth + 1 < 2 ^ 64 }
+    requires enters { (parts_of (wide_of all.now)).front ≡ wide.end }
+    requires room { before + section_count (wide_of all.now) < 2 ^ 63 }
+    requires half { half ≤ section_count (wide_of all.now) }
+    ensures { result ≡ are_halved (around_of around) levels depth before half (wide_of all.now) (bare_statements (statements_of ifs.now)) }
+{
+    let at = cut(half, all);
+    match ifs {
+        [] => false,
+        [first, rest @ ..] => {
+            let Some(body) = opened(depth, before + half, first) else {
+                return false;
+            };
+            same_groups(around, depth, levels, before, &all[..at], body)
+                && same_groups(around, depth, levels, before + half, &all[at..], rest)
+        }
+    }
 }

@@ -24,6 +24,69 @@ pub struct Label {
     pub section: usize,
 }
 
+/// How many cases are tried one after another, and how many sections: more are halved.
+pub const FEW_CASES: usize = 4;
+
+pub const FEW_SECTIONS: usize = 8;
+
+/// The words from one on, and below another if there is that.
+#[derive(Clone, Copy)]
+pub struct Range {
+    low: u32,
+    high: Option<u32>,
+}
+
+impl Range {
+    /// All words.
+    pub const ALL: Range = Range { low: 0, high: None };
+
+    pub fn has(self, word: u32) -> bool {
+        match self.high {
+            Some(high) => self.low <= word && word < high,
+            None => self.low <= word,
+        }
+    }
+
+    pub fn below(self, word: u32) -> Range {
+        Range {
+            low: self.low,
+            high: Some(word),
+        }
+    }
+
+    pub fn from(self, word: u32) -> Range {
+        Range {
+            low: word,
+            high: self.high,
+        }
+    }
+}
+
+/// How many cases are in a range.
+pub fn count_in(range: Range, labels: &[Label]) -> usize {
+    let mut count: usize = 0;
+    for label in labels {
+        if let Some(word) = label.word {
+            if range.has(word) {
+                count = count.saturating_add(1);
+            }
+        }
+    }
+    count
+}
+
+/// The first word of a case in a range that has so many cases of the range below it, or 0.
+pub fn middle(range: Range, below: usize, labels: &[Label]) -> u32 {
+    for label in labels {
+        if let Some(word) = label.word {
+            if range.has(word) && count_in(range.below(word), labels) == below {
+                return word;
+            }
+        }
+    }
+    0
+}
+
 /// Whether the test of a `while` is the mark of a `switch`.
 pub fn is_switch(test: &Expression) -> bool {
     match test {

@@ -2,8 +2,8 @@
 
 use crate::fault::PrintFault;
 use crate::labels::{
-    Label, Mark, default_section, has_word, is_declaration, is_switch, mark_of, nesting_of_all,
-    section_count,
+    FEW_CASES, FEW_SECTIONS, Label, Mark, Range, count_in, default_section, has_word,
+    is_declaration, is_switch, mark_of, middle, nesting_of_all, section_count,
 };
 use crate::printed::Printed;
 use crate::writer::{Writer, between};
@@ -236,23 +236,91 @@ impl Printer<'_> {
         Ok(labels)
     }
 
-    // Writes the choice of a section: `x==1u?1u:x==7u?2u:3u`.
-    fn put_choice(&mut self, depth: usize, all: &[Statement]) -> Result<(), PrintFault> {
-        let labels = self.labels(all)?;
-        for label in labels.as_slice() {
+    // Writes `x==1u?1u:x==7u?2u:3u`, with the cases in a range.
+    fn put_chain(
+        &mut self,
+        depth: usize,
+        range: Range,
+        labels: &[Label],
+        default: usize,
+    ) -> Result<(), PrintFault> {
+        for label in labels {
             if let Some(word) = label.word {
-                self.put_hidden(depth)?;
-                self.put(b"==")?;
-                self.put_number(word as usize)?;
-                self.put(b"?")?;
-                self.put_number(label.section)?;
-                self.put(b":")?;
+                if range.has(word) {
+                    self.put_hidden(depth)?;
+                    self.put(b"==")?;
+                    self.put_number(word as usize)?;
+                    self.put(b"?")?;
+                    self.put_number(label.section)?;
+                    self.put(b":")?;
+                }
             }
         }
-        self.put_number(default_section(labels.as_slice(), section_count(all)))
+        self.put_number(default)
     }
 
-    // Begins a section: `if(x<=1u){`.
+    // Writes the choice of a section among the cases in a range: `x=x==1u?1u:x==7u?2u:3u;`, or two of them, `if(x<9u)..else ..`.
+    fn put_choice(
+        &mut self,
+        levels: usize,
+        depth: usize,
+        range: Range,
+        labels: &[Label],
+        default: usize,
+    ) -> Result<(), PrintFault> {
+        let count = count_in(range, labels);
+        if levels == 0 || count <= FEW_CASES {
+            self.put_hidden(depth)?;
+            self.put(b"=")?;
+            self.put_chain(depth, range, labels, default)?;
+            return self.put(b";");
+        }
+        let middle = middle(range, count / 2, labels);
+        self.put(b"if(")?;
+        self.put_hidden(depth)?;
+        self.put(b"<")?;
+        self.put_number(middle as usize)?;
+        self.put(b")")?;
+        self.put_choice(levels - 1, depth, range.below(middle), labels, default)?;
+        self.put(b"else")?;
+        self.put_choice(levels - 1, depth, range.from(middle), labels, default)
+    }
+
+    // Writes the choice of a section among all cases of a block.
+    fn choice(&mut self, depth: usize, all: &[Statement]) -> Result<(), PrintFault> {
+        let labels = self.labels(all)?;
+        let default = default_section(labels.as_slice(), section_count(all));
+        let levels = count_in(Range::ALL, labels.as_slice());
+        self.put_choice(levels, depth, Range::ALL, labels.as_slice(), default)
+    }
+
+    // Ends the group that ends before a section, and begins those that begin with it, if a switch has so many sections.
+    fn put_groups(&mut self, depth: usize, count: usize, section: usize) -> Result<(), PrintFault> {
+        let mut before: usize = 0;
+        let mut left = count;
+        for _ in 0..count {
+            if left <= FEW_SECTIONS {
+                break;
+            }
+            let half = left / 2;
+            let last = before.saturating_add(half);
+            if section <= last {
+                if section == before.saturating_add(1) {
+                    self.put_section(depth, last)?;
+                }
+                left = half;
+            } else {
+                if section == last.saturating_add(1) {
+                    self.writer.append(b"}")?;
+                }
+                before = last;
+                left = left.saturating_sub(half);
+            }
+        }
+        Ok(())
+    }
+
+    // Begins a section, or a group that ends with it: `if(x<=1u){`.
     fn put_section(&mut self, depth: usize, section: usize) -> Result<(), PrintFault> {
         self.put(b"if(")?;
         self.put_hidden(depth)?;
@@ -283,6 +351,7 @@ impl Printer<'_> {
         around: Around,
         depth: usize,
     ) -> Result<(), PrintFault> {
+        let count = section_count(all);
         let mut section: usize = 0;
         let mut after_label = false;
         for tree in all {
@@ -292,6 +361,7 @@ impl Printer<'_> {
                         self.writer.append(b"}")?;
                     }
                     section = section.saturating_add(1);
+                    self.put_groups(depth, count, section)?;
                     self.put_section(depth, section)?;
                 }
                 after_label = true;
@@ -340,10 +410,8 @@ impl Printer<'_> {
         self.skip(1);
         self.copy_all(count.saturating_sub(2))?;
         self.put(b";")?;
-        self.put_hidden(depth)?;
-        self.put(b"=")?;
-        self.put_choice(depth, all.as_slice())?;
-        self.put(b";do{")?;
+        self.choice(depth, all.as_slice())?;
+        self.put(b"do{")?;
         self.skip(2);
         self.sections(all.as_slice(), within(around, depth), depth)?;
         self.put(b"}while(0);")?;
@@ -493,183 +561,5 @@ pub fn print(
     match print_with(alloc, wide, read, carried, WIDTH) {
         Err(PrintFault::SourceTooLarge) if carried => print_with(alloc, wide, read, carried, 0),
         other => other,
-    }
-}
-
-#[cfg(test)]
-mod tests {
-    use super::*;
-    use cc_wide_text::read;
-    use std::test::Fail;
-
-    const TEXT: &[u8] =
-        b"#define A 'a'\nint f(int c)\n{\n switch (c) { // c\n case A: case 0x1e + 1:\n  c = -c - -1;\n default: break;\n }\n return c;\n}";
-
-    #[test]
-    fn texts_are_printed(rt: HostRuntime) -> Result<(), Fail> {
-        let wanted =
-            b"\nint f(int c)\n{unsigned __s;\n{__s=c;__s=__s==97u?1u:__s==31u?1u:2u;do{\nif(__s<=1u){\nc= -c- -1;}\nif(__s<=2u){break;}\n}while(0);}\nreturn c;\n}";
-        let found = read(rt.alloc(), TEXT)?;
-        let printed = print_with(rt.alloc(), TEXT, &found, false, 0)?;
-        assert_eq!(rt; printed.text.as_slice(), wanted.as_slice());
-        Ok(())
-    }
-
-    #[test]
-    fn lines_are_carried(rt: HostRuntime) -> Result<(), Fail> {
-        let wide = b"enum { A = 1 };\n\nint x = A; // one\n";
-        let wanted =
-            b"            //|enum { A = 1 };\n            //|\nint x=1;    //|int x = A; // one\n            //|";
-        let found = read(rt.alloc(), wide)?;
-        let printed = print_with(rt.alloc(), wide, &found, true, 12)?;
-        assert_eq!(rt; printed.text.as_slice(), wanted.as_slice());
-        Ok(())
-    }
-
-    #[test]
-    fn places_are_found(rt: HostRuntime) -> Result<(), Fail> {
-        let found = read(rt.alloc(), TEXT)?;
-        let printed = print(rt.alloc(), TEXT, &found, true)?;
-        let wide = printed.place(TEXT, Place { line: 4, column: 6 });
-        assert_eq!(rt; (wide.line, wide.column), (4, 10));
-        let wide = printed.place(TEXT, Place { line: 6, column: 6 });
-        assert_eq!(rt; (wide.line, wide.column), (6, 10));
-        let wide = printed.place(
-            TEXT,
-            Place {
-                line: 10,
-                column: 1,
-            },
-        );
-        assert_eq!(rt; (wide.line, wide.column), (10, 1));
-        Ok(())
-    }
-
-    // The line and the column of the fault with this number, or 0 and 0.
-    fn refused(rt: &HostRuntime, text: &[u8], number: u32) -> (usize, usize) {
-        let Ok(found) = read(rt.alloc(), text) else {
-            return (0, 0);
-        };
-        match print(rt.alloc(), text, &found, true) {
-            Ok(_) => (0, 0),
-            Err(fault) => {
-                if fault.number() != number {
-                    return (0, 0);
-                }
-                match fault.place() {
-                    Some(place) => (place.line, place.column),
-                    None => (0, 0),
-                }
-            }
-        }
-    }
-
-    #[test]
-    fn wrong_labels_have_places(rt: HostRuntime) -> Result<(), Fail> {
-        assert_eq!(rt;
-            refused(&rt, b"int f(int c) { switch (c) { c = 1; } return c; }", 5),
-            (1, 29)
-        );
-        assert_eq!(rt;
-            refused(&rt, b"int f(int c) { switch (c) { case 1: } return c; }", 5),
-            (1, 37)
-        );
-        assert_eq!(rt;
-            refused(
-                &rt,
-                b"int f(int c) { switch (c) { case 1: int x; } return c; }",
-                5
-            ),
-            (1, 37)
-        );
-        assert_eq!(rt;
-            refused(
-                &rt,
-                b"int f(int c) { switch (c) case 1: c = 2; return c; }",
-                5
-            ),
-            (1, 16)
-        );
-        assert_eq!(rt;
-            refused(&rt, b"int f(int c) { case 1: c = 2; return c; }", 5),
-            (1, 16)
-        );
-        assert_eq!(rt;
-            refused(
-                &rt,
-                b"int f(int c) { if (c) { default: c = 2; } return c; }",
-                5
-            ),
-            (1, 25)
-        );
-        assert_eq!(rt;
-            refused(
-                &rt,
-                b"int f(int c) { switch (c) { { case 1: ; } } return c; }",
-                5
-            ),
-            (1, 29)
-        );
-        assert_eq!(rt;
-            refused(
-                &rt,
-                b"int f(int c) { switch (c) { case 1: { case 2: ; } } return c; }",
-                5
-            ),
-            (1, 39)
-        );
-        assert_eq!(rt;
-            refused(
-                &rt,
-                b"int f(int c) { switch (c) { case 1: ; case 2 - 1: ; } return c; }",
-                12
-            ),
-            (1, 39)
-        );
-        assert_eq!(rt;
-            refused(
-                &rt,
-                b"int f(int c) { switch (c) { default: ; default: ; } return c; }",
-                12
-            ),
-            (1, 40)
-        );
-        assert_eq!(rt;
-            refused(
-                &rt,
-                b"int f(int c) { switch (c) { case c: ; } return c; }",
-                13
-            ),
-            (1, 29)
-        );
-        assert_eq!(rt;
-            refused(
-                &rt,
-                b"int f(int c) { switch (c) { case 1 / 0: ; } return c; }",
-                13
-            ),
-            (1, 29)
-        );
-        assert_eq!(rt;
-            refused(
-                &rt,
-                b"int f(int c) { switch (c) { case 1: continue; } return c; }",
-                18
-            ),
-            (1, 37)
-        );
-        assert_eq!(rt;
-            refused(
-                &rt,
-                b"int f(int c) { while (c) { switch (c) { case 1: continue; } } return c; }",
-                5
-            ),
-            (0, 0)
-        );
-        assert_eq!(rt;
-            refused(&rt, b"int f(int c) { continue; return c; }", 18),
-            (1, 16)
-        );
-        Ok(())
     }
 }

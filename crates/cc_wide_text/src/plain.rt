@@ -454,20 +454,3 @@ pub fn plain(alloc: Global, text: &[u8]) -> Result<Vec<u8>, AllocError>
     }
     Ok(written)
 }
-
-#[cfg(test)]
-mod tests {
-    use super::*;
-    use std::test::Fail;
-
-    #[test]
-    fn bytes_are_written(rt: HostRuntime) -> Result<(), Fail> {
-        let text =
-            b"#define A 'z' // it's\nint x='\\n'; /* '#' */ __y; #define\n'a'u '\\177''\\x41' A;";
-        let wanted =
-            b"__macro A 122        ;int x=10  ; /* '#' */ #_y; #define\n'a'u 127   '\\x41' A;";
-        let found = plain(rt.alloc(), text)?;
-        assert_eq!(rt; found.as_slice(), wanted.as_slice());
-        Ok(())
-    }
-}

@@ -38,4 +38,4 @@ left r = bare_statements (statements_of (drop r.done r.body.now))
 
 -- the bare sections that have not begun
 abbrev pub sections_left : Reading → List Statement → Stmts
-sections_left r ifs = bare_statements (statements_of (drop r.sections ifs))
+sections_left r ifs = bare_statements (statements_of (drop r.next ifs))

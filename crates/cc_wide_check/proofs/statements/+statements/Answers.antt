@@ -1,20 +1,24 @@
 -- A switch, and a `while`, by the test for a switch; and the statements of a block one by one.
-use Rattle.std.proofs.Common.{◌≡◌, suc, ◌+◌, ◌<◌, true, false, ◌&&◌, refl, ap, sym, ◌∙◌, length, arith}
+use Rattle.std.proofs.Common.{◌≡◌, suc, ◌+◌, ◌-◌, ◌/◌, ◌<◌, true, false, ◌&&◌, refl, ap, sym, ◌∙◌, length, take, drop, arith}
+use denote.Param.Weighed.{most}
+use Rattle.std.proofs.lemmas.List.{take_rest}
+use Rattle.cc_ast.proofs.ast.Statement.TheLaws.{the_size}
 use Rattle.std.proofs.lemmas.Bool.{lt-leb}
 use Rattle.cc_ast.specs.Erase.{expression_tree, statement_tree, statements_of}
 use Rattle.cc_ast.specs.Tree as tree
 use Rattle.cc_ast.specs.declared.ast.Statement.{Statement}
 use Rattle.cc_wide.specs.Places.{bare_statement, bare_statements}
 use Rattle.cc_wide.specs.WideTree as wide
-use Rattle.cc_wide.specs.Lowering.{Loop, lowered, all_lowered}
+use Rattle.cc_wide.specs.Lowering.{Loop, few_sections, lowered, all_lowered}
 use Rattle.cc_wide_text.specs.Forms.{wide_statement}
 use Rattle.cc_wide_check.specs.internal.Equal.{equal_statement, equal_statements}
-use Rattle.cc_wide_check.specs.internal.Sections.{is_end, parts, of_block, of_switch}
+use Rattle.cc_wide_check.specs.internal.Sections.{are_few, is_end, are_grouped, are_halved, parts, of_block, of_switch}
 use Rattle.cc_wide_check.specs.internal.Views.{around_of, wide_of, left, sections_left}
 use Rattle.cc_wide_check.proofs.Few.{few-parts}
+use Rattle.cc_wide_check.proofs.Grouping.{most-halves, first-front, first-count, other-front, other-count, no-halves, both-halves}
 use Rattle.cc_wide_check.proofs.Lists.{pairs-differ}
 use Rattle.cc_wide_check.proofs.Reading.{bare_of, statement-read, statement-differs, read-all, none-left, nothing-left, something-left}
-use Rattle.cc_wide_check.proofs.Sections.{switch-same}
+use Rattle.cc_wide_check.proofs.Sections.{groups-few, groups-halved, switch-same}
 use Rattle.cc_wide_check.proofs.Switches.{while-is}
 use Rattle.cc_wide_check.proofs.Trees.{block-tree, while-tree, tested}
 use Rattle.cc_wide_check.proofs.statements.+statements.Goals as goal
@@ -45,7 +49,7 @@ pub same_sections-returns-then-reading : goal.same_sections-returns-then-reading
 same_sections-returns-then-reading t c =
     let r = c.loop-s.reading in
     let ifs = c.args.ifs.now in
-    none-left r.sections ifs c.loop-s.invariant.within
+    none-left r.next ifs c.loop-s.invariant.within
     ∙ sym (read-all (around_of c.args.around) c.args.depth r.sections r.label c.args.all.now c.loop-s.s-index (left r) (sections_left r ifs) c.loop-s-test.false
     ∙ ap (λ b. b && is_end (sections_left r ifs)) (nothing-left r.body.now r.done c.if-reading.true))
     ∙ c.loop-s.invariant.same
@@ -123,3 +127,64 @@ pub same_parts-returns-in-empty : goal.same_parts-returns-in-empty
 same_parts-returns-in-empty t c =
     let few : length c.args.trees.now < 3 = omega arith in
     few-parts (around_of c.args.around) c.args.depth (expression_tree c.args.e.now) (wide_of c.args.all.now) c.args.trees.now few
+
+-- ---- groups of sections
+
+pub same_groups-returns-then-are_few : goal.same_groups-returns-then-are_few
+same_groups-returns-then-are_few t c =
+    c.same_sections.ensures
+    ∙ groups-few (around_of c.args.around) c.args.levels c.args.depth c.args.before (wide_of c.args.all.now) (bare_of c.args.ifs.now) c.requires.enters
+    (ap (are_few c.args.levels few_sections) (sym c.section_count-count.ensures.is) ∙ sym c.are_few.ensures.is ∙ c.if-are_few.true)
+
+pub same_groups-returns : goal.same_groups-returns
+same_groups-returns t c =
+    let a = around_of c.args.around in
+    let ws = wide_of c.args.all.now in
+    let ifs = bare_of c.args.ifs.now in
+    let some : 0 < c.args.levels = c.are_few.ensures.some c.if-are_few.false in
+    let one : c.args.levels ≡ suc (c.args.levels - 1) = omega (arith, some) in
+    c.same_halves.ensures
+    ∙ ap (λ k. are_halved a (c.args.levels - 1) c.args.depth c.args.before (k / 2) ws ifs) c.section_count-count.ensures.is
+    ∙ groups-halved a c.args.levels (c.args.levels - 1) c.args.depth c.args.before ws ifs one
+    (ap (are_few c.args.levels few_sections) (sym c.section_count-count.ensures.is) ∙ sym c.are_few.ensures.is ∙ c.if-are_few.false)
+
+pub same_halves-returns-in_default : goal.same_halves-returns-in_default
+same_halves-returns-in_default t c =
+    no-halves c.args.half c.args.all.now c.cut-at.result c.cut-at.ensures.is (around_of c.args.around) c.args.levels c.args.depth c.args.before c.args.ifs.now c.first-item.result
+    c.in-len1-up.len_at_least c.first-item.is c.in_default.ensures
+
+pub same_halves-same_groups-requires : goal.same_halves-same_groups-requires
+same_halves-same_groups-requires t c =
+    let deep = most-halves the_size c.cut-at.result c.args.all.now in
+    let front = first-front c.args.half c.args.all.now c.cut-at.result c.cut-at.ensures.is in
+    let fewer = first-count c.args.half c.args.all.now c.cut-at.result c.cut-at.ensures.is in
+    (omega (arith, deep, c.decreases), (c.requires.low, (front ∙ c.requires.enters, omega (arith, fewer, c.requires.room))))
+
+pub same_halves-same_groups-requires-then-same_groups : goal.same_halves-same_groups-requires-then-same_groups
+same_halves-same_groups-requires-then-same_groups t c =
+    let at = c.cut-at.result in
+    let all = c.args.all.now in
+    let deep = most-halves the_size at all in
+    let same = ap (most the_size) (take_rest all at) in
+    let count = other-count c.args.half all at c.cut-at.ensures.is c.requires.half in
+    (omega (arith, deep, same, c.decreases), (c.requires.low, (other-front c.args.half all at c.cut-at.ensures.is, omega (arith, count, c.requires.room))))
+
+pub same_halves-returns-then-same_groups : goal.same_halves-returns-then-same_groups
+same_halves-returns-then-same_groups t c =
+    let a = around_of c.args.around in
+    let at = c.cut-at.result in
+    let all = c.args.all.now in
+    let ifs = c.args.ifs.now in
+    let other = are_grouped a c.args.levels c.args.depth (c.args.before + c.args.half) (wide_of (take (length all - at) (drop at all))) (bare_of (take (length ifs - 1) (drop 1 ifs))) in
+    c.same_groups-then-same_groups.ensures ∙ sym (ap (λ b. b && other) (sym c.same_groups.ensures ∙ c.if-same_groups.true))
+    ∙ both-halves c.args.half all at c.cut-at.ensures.is a c.args.levels c.args.depth c.args.before ifs c.first-item.result c.in-len1-up.len_at_least c.first-item.is c.in-Some.body.now c.in-Some.ensures
+
+pub same_halves-returns-else-same_groups : goal.same_halves-returns-else-same_groups
+same_halves-returns-else-same_groups t c =
+    let a = around_of c.args.around in
+    let at = c.cut-at.result in
+    let all = c.args.all.now in
+    let ifs = c.args.ifs.now in
+    let other = are_grouped a c.args.levels c.args.depth (c.args.before + c.args.half) (wide_of (take (length all - at) (drop at all))) (bare_of (take (length ifs - 1) (drop 1 ifs))) in
+    c.if-same_groups.false ∙ sym (ap (λ b. b && other) (sym c.same_groups.ensures ∙ c.if-same_groups.false))
+    ∙ both-halves c.args.half all at c.cut-at.ensures.is a c.args.levels c.args.depth c.args.before ifs c.first-item.result c.in-len1-up.len_at_least c.first-item.is c.in-Some.body.now c.in-Some.ensures

@@ -11,6 +11,6 @@ returns-then-reading-2-clause-read c =
     let ifs = c.args.ifs.now in
     λ go. ap (λ b. label_step c.args.depth go r.sections b (left r) (sections_left r ifs)) c.if-reading.false
     ∙ elim c.then-reading-2.branch [
-      | then-reading-2-via-then-reading-2 w ↦ unended-read c.args.depth r.sections ifs go r.body.now r.done w.if-reading-2.true
-      | then-reading-2-via-else-reading-2+then-reading-ifs w ↦ ended-read c.args.depth r.sections ifs go (left r) (let long : length ifs ≤ r.sections = omega arith in long)
+      | then-reading-2-via-then-reading-2 w ↦ unended-read c.args.depth r.sections r.next ifs go r.body.now r.done w.if-reading-2.true
+      | then-reading-2-via-else-reading-2+then-reading-ifs w ↦ ended-read c.args.depth r.sections r.next ifs go (left r) (let long : length ifs ≤ r.next = omega arith in long)
     ]
