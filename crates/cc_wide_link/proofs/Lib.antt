@@ -1,0 +1,2 @@
+-- an image of a translation
+pub mod Agreeing
