@@ -2,6 +2,7 @@
 
 ghost use Rattle.std.specs.Prelude.{◌≡◌, All, IsTrue, IfErr, IfOk, OnOk, map, string_bytes};
 ghost use Rattle.cc_disk.specs.Images.{OnlyReads};
+ghost use Rattle.cc_library.specs.Apply.{Units};
 ghost use Rattle.cc_library.specs.Name.{is_name};
 ghost use Rattle.cc_copy.specs.Selected.{AreOf, IsNotSelectedIn, IsNotSelectedOn, IsSelectedIn, IsSelectedOn, IsSelection};
 ghost use Rattle.cc_copy.specs.internal.Named.{IsNotTaken, IsUnnamed};
@@ -129,7 +130,8 @@ pub fn selection_on<D: Disk + Drop, S: Write, E: Write>(
     seen: &mut S,
     explanations: &mut E,
 ) -> (Result<Selection, PartFault>, D)
-    // On an honest disk the units are selected from the map to which it recovers.
+    // The units are selected from some map, whatever kind of disk it is. On an honest disk this is the map to which it recovers.
+    ensures some { IfOk result.0 (λ selection. (units : Units) × IsSelectedIn units (map string_bytes names.now) is_confirmed selection) }
     ensures selected { IfOk result.0 (λ selection. IsTrue D.honest → IsSelectedOn (D.seen disk) (map string_bytes names.now) is_confirmed selection) }
     ensures refused { IfErr result.0 (λ fault. IsNotSelectedOn D.honest (D.seen disk) (D.failures disk) (D.failures result.1) (map string_bytes names.now) fault) }
     ensures reads { IsTrue D.honest → OnlyReads D.seen D.may_leave D.moment D.left_since disk result.1 }

@@ -65,12 +65,13 @@ pub record IsDiff (left right : Units) (lines : List DiffLine) : Type 0 where
 
 -- ---- disks
 
--- the disks recover to two maps, the lines are their differences, and there are no lines exactly if the maps are the same
-pub record IsDiffOn (seen_left seen_right : List ℕ) (lines : List DiffLine) : Type 0 where
+-- The lines are the differences between two maps, and there are no lines exactly if the maps are the same. On an honest kind of disk they are
+-- the maps to which the disks recover.
+pub record IsDiffOn (honest : Bool) (seen_left seen_right : List ℕ) (lines : List DiffLine) : Type 0 where
   pub left : Units
   pub right : Units
-  pub recovers_left : Recovers seen_left left
-  pub recovers_right : Recovers seen_right right
+  pub recovers_left : IsTrue honest → Recovers seen_left left
+  pub recovers_right : IsTrue honest → Recovers seen_right right
   pub is_diff : IsDiff left right lines
   pub equal : (lines ≡ []) ↔ (left ≡ right)
 

@@ -49,8 +49,8 @@ pub fn diff_disks<D: Disk + Drop>(
     left: D,
     right: D,
 ) -> (Result<Vec<DiffLine>, DiffFault>, (D, D))
-    // On an honest kind of disk, the lines are the differences between the maps to which the disks recover.
-    ensures lines { IfOk result.0 (λ lines. IsTrue D.honest → IsDiffOn (D.seen left) (D.seen right) lines.items) }
+    // The lines are the differences between two maps. On an honest kind of disk these are the maps to which the disks recover.
+    ensures lines { IfOk result.0 (λ lines. IsDiffOn D.honest (D.seen left) (D.seen right) lines.items) }
     ensures refused { IfErr result.0 (λ fault. DiffFaults D.honest (D.seen left) (D.seen right)
         (D.failures left) (D.failures result.1.0) (D.failures right) (D.failures result.1.1) fault) }
     ensures reads_left { IsTrue D.honest → OnlyReads D.seen D.may_leave D.moment D.left_since left result.1.0 }

@@ -1,8 +1,10 @@
 -- What a command of a library stored, and why it stored nothing.
 use Rattle.std.specs.Prelude.{◌≡◌, ℕ, Bool, false, IsTrue, List, Some, None}
+use Rattle.std.specs.FinMap.{empty}
 use Rattle.cc_unit.specs.declared.unit.StoredUnit.{StoredUnit}
 use Rattle.cc_library.specs.Change.{LibraryCommand}
 use Rattle.cc_library.specs.Name.{is_name}
+use Rattle.cc_library.specs.Apply.{AreAccepted}
 use Rattle.cc_library.specs.Answers.{OpenFaults}
 use Rattle.cc_log.specs.Commands.{HasCommands, stored_at}
 use Rattle.cc_task.specs.declared.part.Part.{Part}
@@ -19,6 +21,10 @@ pub record IsStored (commands : List LibraryCommand) (name : List ℕ) (number :
 pub record StoresNone (commands : List LibraryCommand) (name : List ℕ) (number : ℕ) : Type 0 where
   pub is_name : IsTrue (is_name name)
   pub stored : stored_at commands name number ≡ None
+
+-- of some commands, each of which is accepted by the map that those before it made, the one with this number stored this unit under the name
+abbrev pub IsStoredBySome : (name : List ℕ) (number : ℕ) → StoredUnit → Type 0
+IsStoredBySome name number unit = (commands : List LibraryCommand) × AreAccepted empty commands × IsStored commands name number unit
 
 -- of the commands whose records the disk has, the one with this number stored this unit under the name
 abbrev pub IsStoredOn : (seen name : List ℕ) (number : ℕ) → StoredUnit → Type 0

@@ -2,7 +2,9 @@
 
 ghost use Rattle.std.specs.Prelude.{IsTrue, IfOk, IfErr};
 ghost use Rattle.cc_disk.specs.Images.{OnlyReads};
-ghost use Rattle.cc_past.specs.Past.{IsNotStoredOn, IsPartAt};
+ghost use Rattle.cc_past.specs.Past.{IsNotStoredOn, IsPartAt, IsStoredBySome};
+ghost use Rattle.cc_tasks.specs.Part.{IsPart};
+ghost use Rattle.cc_unit.specs.declared.unit.StoredUnit.{StoredUnit};
 
 use crate::stored::stored_on;
 use cc_disk::Disk;
@@ -22,7 +24,9 @@ pub fn part_at<D: Disk + Drop>(
     part: Part,
     number: usize,
 ) -> (Result<Vec<u8>, PartFault>, D)
-    // On an honest disk the command is one of those whose records the disk has.
+    // The bytes are this part of a unit that one of some accepted commands stored under the name, whatever kind of disk it is. On an honest
+    // disk the command is one of those whose records the disk has.
+    ensures some { IfOk result.0 (λ bytes. (unit : StoredUnit) × IsStoredBySome name.now number unit × IsPart part unit bytes.items) }
     ensures part { IfOk result.0 (λ bytes. IsTrue D.honest → IsPartAt (D.seen disk) name.now number part bytes.items) }
     ensures refused { IfErr result.0 (λ fault. IsNotStoredOn D.honest (D.seen disk) (D.failures disk) (D.failures result.1) name.now number fault) }
     ensures reads { IsTrue D.honest → OnlyReads D.seen D.may_leave D.moment D.left_since disk result.1 }

@@ -2,7 +2,7 @@
 
 ghost use Rattle.std.specs.Prelude.{◌≡◌, IsTrue, IfOk, IfErr, OnOk};
 ghost use Rattle.cc_disk.specs.Images.{OnlyReads};
-ghost use Rattle.cc_past.specs.Past.{IsNotStoredOn, IsStored, IsStoredOn};
+ghost use Rattle.cc_past.specs.Past.{IsNotStoredOn, IsStored, IsStoredBySome, IsStoredOn};
 ghost use Rattle.cc_past.specs.internal.Steps.{IsNotStored};
 
 use cc_disk::Disk;
@@ -52,6 +52,7 @@ pub(crate) fn stored_on<D: Disk + Drop>(
     number: usize,
 ) -> (Result<Stored, PartFault>, D)
     ensures stored { IfOk result.0 (λ stored. IsTrue D.honest → IsStoredOn (D.seen disk) name.now number stored.unit) }
+    ensures some { IfOk result.0 (λ stored. IsStoredBySome name.now number stored.unit) }
     ensures name { IfOk result.0 (λ stored. stored.name ≡ name.now) }
     ensures refused { IfErr result.0 (λ fault. IsNotStoredOn D.honest (D.seen disk) (D.failures disk) (D.failures result.1) name.now number fault) }
     ensures sound { OnOk result.0 (D.failures result.1 ≡ D.failures disk) }

@@ -15,6 +15,11 @@ returns-in-Ok-clause-selected g c =
     let recovers = λ (h : IsTrue D.honest). subst (λ (m : Units). Recovers (D.seen c.args.disk) m) (sym c.units-units.ensures) (c.in-Ok.ensures.recovered h) in
     of_ok {P = λ selection. IsSelectedIn units (map string_bytes c.args.names.now) c.args.is_confirmed selection} (λ selection is h. (units, recovers h, is)) c.selected-selection.result c.selected-selection.ensures.selected
 
+pub returns-in-Ok-clause-some : goal.returns-in-Ok-clause-some
+returns-in-Ok-clause-some g c =
+    let units = c.units-units.result.now in
+    of_ok {P = λ selection. IsSelectedIn units (map string_bytes c.args.names.now) c.args.is_confirmed selection} (λ selection is. (units, is)) c.selected-selection.result c.selected-selection.ensures.selected
+
 pub returns-in-Ok-clause-refused : goal.returns-in-Ok-clause-refused
 returns-in-Ok-clause-refused g c =
     let D = g.D.Disk in

@@ -11,11 +11,11 @@ returns-after-diff_maps-clause-lines g c =
     let left = λ (h : IsTrue D.honest). subst (λ (units : Units). Recovers (D.seen c.args.left) units) (sym c.units.ensures) (c.in-Ok.ensures.recovered h) in
     let right = λ (h : IsTrue D.honest). subst (λ (units : Units). Recovers (D.seen c.args.right) units) (sym c.units-in-Ok-open.ensures) (c.in-Ok-open.ensures.recovered h) in
     elim c.match-diff_maps.branch [
-      | in-Ok-diff_maps w ↦ rw w.lines-is (λ h. record {
+      | in-Ok-diff_maps w ↦ rw w.lines-is (record {
         left = c.units.result.now;
         right = c.units-in-Ok-open.result.now;
-        recovers_left = left h;
-        recovers_right = right h;
+        recovers_left = left;
+        recovers_right = right;
         is_diff = w.in-Ok-diff_maps.ensures.lines;
         equal = w.in-Ok-diff_maps.ensures.equal;
       })
