@@ -44,6 +44,7 @@ def changed(text, rng):
 
 
 COUNTED = (["interpret", "--count", "2000"], ["run", "--count", "20000", "5"], ["safe"])
+FINAL = "the run has stopped in place: nothing more comes, however many instructions it may take"
 STOPPED = "the image stops in place, since the program goes wrong:"
 AHEAD = "with a larger STEPS the image writes {} and then stops in place, since the program goes wrong:"
 
@@ -91,8 +92,19 @@ def plain(objects):
             out.append(str(it["value"]))
         elif kind == "line":
             out.append(it["text"])
+        elif kind == "count":
+            out.append(f"{it['of']} {it['value']}")
+        elif kind == "audit":
+            out.append(f"audit {it['name']} {it['said']}")
+        elif kind == "space":
+            out.append(f"space {it['area']} {it['used']} {it['compacted']} {it['units']}")
+        elif kind == "hash":
+            out.append(f"cclib-unit 1 {it['confirmed']} {it['sha256']} {it['name']}")
+        elif kind == "command":
+            out.append(" ".join([str(it["number"]), it["did"], it["name"], *(str(it[key]) for key in ("source", "words", "sha256") if key in it)]))
         elif kind == "end":
             out.append(" ".join([it["how"], *(str(it[key]) for key in ("value", "why") if key in it)]))
+            err += ["cclib: " + FINAL] if it.get("final") else []
             err += told(it)
         elif kind == "fault":
             line = f"fault {it['number']} {it['name']}"
@@ -169,7 +181,8 @@ def library(text, rng, kinds):
         wrong += 1
     for words in (["call", "one.disk", "a", "1000", "3"], ["call", "one.disk", "c", "5", "--lines"], ["diff", "one.disk", "two.disk"],
                   ["diff", "one.disk", "none.disk"],
-                  ["diff", "one.disk", "one.disk"], ["call", "one.disk", "nosuch", "5"], ["size", "one.disk", "a"], ["size", "one.disk", "nosuch"], ["log", "one.disk"], ["log", "one.disk", "a"]):
+                  ["diff", "one.disk", "one.disk"], ["call", "one.disk", "nosuch", "5"], ["size", "one.disk", "a"], ["size", "one.disk", "nosuch"], ["log", "one.disk"], ["log", "one.disk", "a"],
+                  ["log", "one.disk", "--hash"], ["hash", "one.disk"], ["hash", "one.disk", "nosuch"], ["call", "one.disk", "c", "1000", "--count"], ["audit", "one.disk", "c"]):
         wrong += not same(words, b"1 2\n\nx\n", [], kinds)
     return wrong
 

@@ -1,4 +1,4 @@
 -- One line after another.
 pub mod Turns
--- The first line of an input.
-pub mod FirstLine
+-- What was written for a call.
+pub mod Answered

@@ -1,5 +1,5 @@
 -- How much memory the image of a library's unit takes.
-use Rattle.std.specs.Prelude.{◌≡◌, ℕ, Bool, List, Some, None}
+use Rattle.std.specs.Prelude.{◌≡◌, ℕ, Bool, IsTrue, List, Some, None}
 use Rattle.cc_c_semantics.specs.declared.mode.Mode.{Mode}
 use Rattle.cc_link.specs.declared.audit_answer.Audit.TheVariants as audit
 use Rattle.cc_unit.specs.declared.unit.StoredUnit.{StoredUnit}
@@ -18,9 +18,9 @@ IsSizeOf mode unit (Left audit.NoCertificate) = unit.certificate ≡ None
 IsSizeOf mode unit (Left audit.Unconfirmed) = (certificate : List ℕ) × (unit.certificate ≡ Some certificate)
 IsSizeOf mode unit (Left audit.Confirmed) = ⊥
 
--- the unit under the name in the map to which the disk's bytes recover has this size
-abbrev pub IsSizeOn : Mode → (seen name : List ℕ) → StoredSize → Type 0
-IsSizeOn mode seen name size = (unit : StoredUnit) × IsUnitOn seen name unit × IsSizeOf mode unit size
+-- A unit has this size. If the disk is honest, it is the one under the name in the map to which the disk's bytes recover.
+abbrev pub IsSizeOn : Mode → (honest : Bool) (seen name : List ℕ) → StoredSize → Type 0
+IsSizeOn mode honest seen name size = (unit : StoredUnit) × (IsTrue honest → IsUnitOn seen name unit) × IsSizeOf mode unit size
 
 -- why nothing is measured: the library is not opened, it has no such unit, or memory ran out
 abbrev pub IsUnmeasured : (honest : Bool) (seen : List ℕ) (before after : ℕ) (name : List ℕ) → PartFault → Type 0

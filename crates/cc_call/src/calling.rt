@@ -1,14 +1,17 @@
 // Running the image of a library's unit on input words.
 
-ghost use Rattle.std.specs.Prelude.{◌≡◌, IfOk, IfErr, IsTrue};
+ghost use Rattle.std.specs.Prelude.{◌≡◌, ℕ, Bool, List, IfOk, IfErr, IsTrue};
 ghost use Rattle.std.specs.Arc.{arc_value};
 ghost use Rattle.cc_disk.specs.Images.{OnlyReads};
 ghost use Rattle.cc_tasks.specs.Part.{IsFound, IsNoPartIn, IsNoPartOn};
+ghost use Rattle.cc_runs.specs.Count.{IsCounted};
+ghost use Rattle.cc_runs.specs.Within.{IsCountedWithin};
 ghost use Rattle.cc_call.specs.Call.{IsCallOn, IsUnitOn};
 
 use cc_disk::Disk;
 use cc_library::{Library, Name, UnitMap};
-use cc_runs::{CountedRun, run_words};
+use cc_runs::{CountedRun, run_words_within};
+use cc_rv32::image::Image;
 use cc_tasks::{PartFault, explain_absent};
 use cc_unit::StoredUnit;
 use std::alloc::Global;
@@ -63,7 +66,8 @@ pub fn unit_on<D: Disk + Drop, E: Write>(
 }
 
 /// What the stored image of the unit with this name does on the input words within this many instructions, and, if `is_counted`, the least
-/// number of instructions with that result. Nothing is compiled, and nothing is written to the disk.
+/// number of instructions with that result. If at most so many words may be written, the run ends, as going, before the first one that is
+/// too many. Nothing is compiled, and nothing is written to the disk.
 ///
 /// Refusals: those of `unit_on`; 40 if memory was refused during the run.
 pub fn call<D: Disk + Drop, E: Write>(
@@ -72,18 +76,19 @@ pub fn call<D: Disk + Drop, E: Write>(
     name: &[u8],
     words: &[u32],
     steps: u64,
+    most: Option<u32>,
     is_counted: bool,
     explanations: &mut E,
 ) -> (Result<CountedRun, PartFault>, D)
     // On an honest disk the unit is the one in the map to which the disk recovers.
-    ensures run { IfOk result.0 (λ run. IsTrue D.honest → IsCallOn (D.seen disk) name.now is_counted steps words.now run) }
+    ensures run { IfOk result.0 (IsCallOn D.honest (D.seen disk) name.now is_counted steps most words.now) }
     ensures refused { IfErr result.0 (λ fault. IsNoPartOn D.honest (D.seen disk) (D.failures disk) (D.failures result.1) name.now fault) }
     ensures reads { IsTrue D.honest → OnlyReads D.seen D.may_leave D.moment D.left_since disk result.1 }
 {
     let (found, disk) = unit_on(alloc, disk, name, explanations);
     match found {
         Ok(unit) => {
-            let run = match run_words(alloc, &unit.image, words, steps, is_counted) {
+            let run = match run_words_within(alloc, &unit.image, words, steps, most, is_counted) {
                 Ok(run) => Ok(run),
                 Err(_) => Err(PartFault::OutOfMemory),
             };
@@ -93,3 +98,11 @@ pub fn call<D: Disk + Drop, E: Write>(
         Err(fault) => (Err(fault), disk),
     }
 }
+
+/// Shows that a run that may write any number of words is the run within all of its instructions, and the other way round.
+pub fn runs_without_bound()
+    ensures all { (image : Image) (counted : Bool) (steps : ℕ) (words : List ℕ) (run : CountedRun) → IsCountedWithin image counted steps None words run
+        → IsCounted image counted steps words run }
+    ensures any { (image : Image) (counted : Bool) (steps : ℕ) (words : List ℕ) (run : CountedRun) → IsCounted image counted steps words run
+        → IsCountedWithin image counted steps None words run }
+{}

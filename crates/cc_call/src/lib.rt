@@ -1,17 +1,23 @@
 //! Running and measuring a unit that a library keeps.
 //!
 //! `calling` takes the unit out of a library and runs its image on input words. `lines` runs it on the words of one line after
-//! another: `reading` reads these lines, and `telling` explains which ones it can't be run on. `measuring` says how much memory
-//! its image takes. The crate exports `unit_in`, `unit_on`, `call`, `answer_line`, `call_lines`, `size_on`, their types, and the
+//! another, on a machine that `kept` keeps; `live` runs it while its input comes. `answering` has what the command `call` writes for
+//! these, and its status. `measuring` says how much memory its image takes. The crate exports these calls, their types, and the
 //! definitions that their contracts cite (`specs/`).
 #![tactic(auto)]
 
+mod answering;
 mod calling;
+mod kept;
 mod lines;
+mod live;
 mod measuring;
-mod reading;
-mod telling;
 
-pub use calling::{call, unit_in, unit_on};
+pub use answering::{
+    Called, answer_lines, answer_live, call_image, call_lines_on, call_live_on, call_on,
+};
+pub use calling::{call, runs_without_bound, unit_in, unit_on};
+pub use kept::KeptMachine;
 pub use lines::{LineEnd, LinesEnd, answer_line, call_lines};
+pub use live::call_live;
 pub use measuring::{StoredSize, size_on};

@@ -52,7 +52,7 @@ pub fn size_on<D: Disk + Drop, E: Write>(
     explanations: &mut E,
 ) -> (Result<StoredSize, PartFault>, D)
     // On an honest disk the unit is the one in the map to which the disk recovers.
-    ensures size { IfOk result.0 (λ size. IsTrue D.honest → IsSizeOn mode (D.seen disk) name.now size) }
+    ensures size { IfOk result.0 (IsSizeOn mode D.honest (D.seen disk) name.now) }
     ensures refused { IfErr result.0 (IsUnmeasured D.honest (D.seen disk) (D.failures disk) (D.failures result.1) name.now) }
     ensures reads { IsTrue D.honest → OnlyReads D.seen D.may_leave D.moment D.left_since disk result.1 }
 {

@@ -3,17 +3,21 @@
 ghost use Rattle.std.specs.Prelude.{IfOk};
 ghost use Rattle.cc_command_line.specs.Work.{IsAllowed};
 
-use crate::commands::{QUIET, command_of_all, row_of};
+use crate::commands::{command_of_all, row_of};
 use crate::files::{NO_FILE_RULE, files_of, reads_program};
-use crate::given::kind_of;
-use crate::json::{JSON, JSON_RULE, is_told_in_json};
+use crate::given::input_file_of;
+use crate::json::{JSON_RULE, is_told_in_json};
 use crate::keeping::{Keeping, call_of, copy_of, diff_of, log_of, restore_of};
 use crate::library::{Session, library_of};
+use crate::live::Living;
+use crate::pack::{Packing, hash_of, pack_of, unpack_of};
 use crate::program::{asm_of, interpret_of, run_of, safe_of, stages_of};
 use crate::refused::{Refused, error_of, error_of_all};
 use crate::row::{Reader, Row};
+use crate::short::{Short, add_of, audit_of, compact_of, list_of, replace_of, withdraw_of};
 use crate::spool::{Server, Submitter, serve_of, submit_of};
 use crate::tips::no_command_text;
+use crate::translate::{Translating, translate_of};
 use crate::unit::{Wanted, image_of, size_of, source_of};
 use crate::watch::{Covered, Traced, cover_of, trace_of};
 use cc_task::{Kind, Task};
@@ -30,6 +34,8 @@ pub enum Work {
     /// Show each function of the text, or only the function with that name, at each stage of the compiler, for an image of this
     /// kind.
     Stages(Kind, Option<String>),
+    /// Run the text on words that come while it runs.
+    Live(Living),
     /// Print the newest things that a run of the text does.
     Trace(Traced),
     /// Print how often each line of the text is reached by runs.
@@ -40,20 +46,27 @@ pub enum Work {
     Keep(Keeping),
     /// Run the script on standard input over a library.
     Library(Session),
+    /// Run a script of one line over a library.
+    Short(Short),
+    /// Print a unit of a library as a file, or its hash, or keep what a file has.
+    Pack(Packing),
     /// Run the scripts that are left in a folder over a library.
     Serve(Server),
     /// Leave a script in a folder, and wait for its answer.
     Submit(Submitter),
+    /// Print the program that a text of wide C means.
+    Translate(Translating),
 }
 
-/// What a command line asks for: the work, whether its faults are left unexplained, whether everything is printed as JSON, and the files that
-/// have its program; no files if it comes on standard input.
+/// What a command line asks for: the work, whether its faults are left unexplained, whether everything is printed as JSON, the files that
+/// have its program, and the file that has the input words of its task; no files if they come on standard input and the command line.
 #[derive(Drop)]
 pub struct Invocation {
     pub work: Work,
     pub is_quiet: bool,
     pub is_json: bool,
     pub files: Vec<String>,
+    pub input: Option<String>,
 }
 
 const NO_COMMAND_RULE: &str = "a command is required: cclib --help lists them";
@@ -80,8 +93,18 @@ fn work_of(alloc: Global, reader: Reader, given: &ArgMatches<'_>) -> Result<Work
         Reader::Restore => restore_of(alloc, given),
         Reader::Copy => copy_of(alloc, given),
         Reader::Library => library_of(alloc, given),
+        Reader::Add => add_of(alloc, given),
+        Reader::Replace => replace_of(alloc, given),
+        Reader::Withdraw => withdraw_of(alloc, given),
+        Reader::List => list_of(alloc, given),
+        Reader::Audit => audit_of(alloc, given),
+        Reader::Compact => compact_of(alloc, given),
+        Reader::Pack => pack_of(alloc, given),
+        Reader::Unpack => unpack_of(alloc, given),
+        Reader::Hash => hash_of(alloc, given),
         Reader::Serve => serve_of(alloc, given),
         Reader::Submit => submit_of(alloc, given),
+        Reader::Translate => translate_of(given),
     }
 }
 
@@ -96,6 +119,22 @@ fn broken_rule(work: &Work, files: usize, is_json: bool) -> Option<&'static str>
     None
 }
 
+// The files that the words of a command name.
+struct Named {
+    files: Vec<String>,
+    input: Option<String>,
+}
+
+// The files that these words name for this work: those of its program, and that of the words of its task.
+fn named_of(alloc: Global, given: &ArgMatches<'_>, work: &Work) -> Result<Named, Refused> {
+    let input = match work {
+        Work::One(_) => input_file_of(alloc, given)?,
+        _ => None,
+    };
+    let files = files_of(alloc, given)?;
+    Ok(Named { files, input })
+}
+
 // What the words of this command ask for, with its files and these options, if they break no rule.
 fn invoked(
     alloc: Global,
@@ -107,8 +146,8 @@ fn invoked(
     ensures { IfOk result (λ request. IsAllowed request.work) }
 {
     let work = work_of(alloc, reader, given)?;
-    let files = match files_of(alloc, given) {
-        Ok(files) => files,
+    let Named { files, input } = match named_of(alloc, given, &work) {
+        Ok(named) => named,
         Err(refused) => {
             drop(work);
             return Err(refused);
@@ -120,10 +159,12 @@ fn invoked(
             is_quiet,
             is_json,
             files,
+            input,
         }),
         Some(rule) => {
             drop(work);
             drop(files);
+            drop(input);
             Err(Refused::ByAll(rule))
         }
     }
@@ -188,9 +229,11 @@ pub fn line<'a, S: AsStr>(alloc: Global, words: &'a [S]) -> Result<Work, Error>
                 is_quiet: _,
                 is_json: _,
                 files,
+                input,
             },
         ) => {
             drop(files);
+            drop(input);
             Ok(work)
         }
         Err(error) => Err(error),

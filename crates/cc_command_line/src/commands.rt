@@ -3,9 +3,12 @@
 use crate::json::JSON;
 use crate::keeping::{CALL, COPY, DIFF, LOG, RESTORE};
 use crate::library::LIBRARY;
+use crate::pack::{HASH, PACK, UNPACK};
 use crate::program::{ASM, CHECK, INTERPRET, RUN, SAFE, STAGES};
 use crate::row::{Form, Row, Word, command_of, with_words};
+use crate::short::{ADD, AUDIT, COMPACT, LIST, REPLACE, WITHDRAW};
 use crate::spool::{SERVE, SUBMIT};
+use crate::translate::TRANSLATE;
 use crate::unit::{IMAGE, SIZE, SOURCE};
 use crate::watch::{COVER, TRACE};
 use clap::Command;
@@ -25,6 +28,7 @@ Examples:
   cclib stages main < examples/quotient.c
   cclib size < examples/quotient.c
   cclib safe < examples/quotient.c
+  cclib translate < wide.c > program.c
   cclib image < examples/quotient.c > quotient.hex
   cclib library units.disk --format 65536 --if-new < examples/units.script
   cclib image units.disk sum > sum.hex
@@ -35,6 +39,15 @@ Examples:
   cclib log units.disk sum
   cclib restore units.disk sum 1
   cclib copy units.disk larger.disk --format 1048576
+  cclib add units.disk quotient < examples/quotient.c
+  cclib replace units.disk quotient < examples/quotient.c
+  cclib withdraw units.disk quotient
+  cclib list units.disk
+  cclib audit units.disk sum
+  cclib compact units.disk
+  cclib pack units.disk sum > sum.unit
+  cclib unpack units.disk sum < sum.unit
+  cclib hash units.disk
   cclib serve units.disk spool
   cclib submit spool add quotient < examples/quotient.c
 
@@ -49,7 +62,8 @@ a negative one is written modulo 4294967296: 4294967293 for -3.
   run a 1000         exited 0
   list               unit a, then ok 3
 
-`serve` does such scripts for many clients at once; `submit` is such a client.
+`add`, `replace`, `withdraw`, `list`, `audit` and `compact` do one such line. `serve` does such scripts for many clients at once;
+`submit` is such a client.
 
 Exit status: 0 for an answer, 1 for a fault, 2 for a command line that is refused.";
 
@@ -65,7 +79,7 @@ const WHOLE_ABOUT: &str =
 // The options of all commands.
 static WHOLE_WORDS: &[Word] = &[QUIET, JSON];
 
-const COMMANDS: usize = 19;
+const COMMANDS: usize = 29;
 
 // The commands, in the order in which help lists them. As an array they would be too large a term for the prover.
 fn row_at(at: usize) -> Option<&'static Row> {
@@ -79,16 +93,26 @@ fn row_at(at: usize) -> Option<&'static Row> {
         6 => Some(&STAGES),
         7 => Some(&SIZE),
         8 => Some(&SAFE),
-        9 => Some(&IMAGE),
-        10 => Some(&SOURCE),
-        11 => Some(&CALL),
-        12 => Some(&DIFF),
-        13 => Some(&LOG),
-        14 => Some(&RESTORE),
-        15 => Some(&COPY),
-        16 => Some(&LIBRARY),
-        17 => Some(&SERVE),
-        18 => Some(&SUBMIT),
+        9 => Some(&TRANSLATE),
+        10 => Some(&IMAGE),
+        11 => Some(&SOURCE),
+        12 => Some(&CALL),
+        13 => Some(&DIFF),
+        14 => Some(&LOG),
+        15 => Some(&RESTORE),
+        16 => Some(&COPY),
+        17 => Some(&LIBRARY),
+        18 => Some(&ADD),
+        19 => Some(&REPLACE),
+        20 => Some(&WITHDRAW),
+        21 => Some(&LIST),
+        22 => Some(&AUDIT),
+        23 => Some(&COMPACT),
+        24 => Some(&PACK),
+        25 => Some(&UNPACK),
+        26 => Some(&HASH),
+        27 => Some(&SERVE),
+        28 => Some(&SUBMIT),
         _ => None,
     }
 }

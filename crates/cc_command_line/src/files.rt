@@ -4,6 +4,7 @@ use crate::command_line::Work;
 use crate::given::texts_of;
 use crate::refused::Refused;
 use crate::row::{Form, Word};
+use crate::short::ShortVerb;
 use clap::ArgMatches;
 use std::alloc::Global;
 
@@ -49,11 +50,14 @@ fn takes_source(line: &str) -> bool {
 /// Whether this work reads a program, which may then come in files.
 pub(crate) fn reads_program(work: &Work) -> bool {
     match work {
-        Work::One(_) | Work::Stages(_, _) | Work::Trace(_) | Work::Cover(_) => true,
+        Work::One(_) | Work::Stages(_, _) | Work::Live(_) | Work::Trace(_) | Work::Cover(_) => true,
+        Work::Translate(_) => true,
+        Work::Short(asked) => matches!(asked.verb, ShortVerb::Add(_) | ShortVerb::Replace(_)),
         Work::Submit(asked) => match &asked.line {
             Some(line) => takes_source(line.as_str()),
             None => false,
         },
-        Work::TakeOut(_) | Work::Keep(_) | Work::Library(_) | Work::Serve(_) => false,
+        Work::TakeOut(_) | Work::Keep(_) | Work::Library(_) | Work::Pack(_) | Work::Serve(_) =>
+            false,
     }
 }

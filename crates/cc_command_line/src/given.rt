@@ -5,7 +5,7 @@ ghost use Rattle.std.specs.Prelude.{◌≤◌, IfOk, IfSome};
 use crate::numbers::{number_in, word_in};
 use crate::refused::Refused;
 use crate::row::{Form, Word};
-use cc_task::{Kind, MOST_STEPS};
+use cc_task::{Kind, MOST_STEPS, MOST_WORDS};
 use clap::ArgMatches;
 use std::alloc::{AllocError, Global};
 
@@ -40,6 +40,27 @@ pub(crate) const READS: Word = Word(
     "reads",
     Form::Flag,
     "Print each word that is read or written as a line of its own: `read V` or `write V`",
+);
+
+/// The option for the most words that a run writes.
+pub(crate) const WORDS: Word = Word(
+    "words",
+    Form::Value("N"),
+    "End before more than N words are written, as `going`: 0 to 4294967295",
+);
+
+/// The option for a file with the input.
+pub(crate) const INPUT_FILE: Word = Word(
+    "input",
+    Form::Value("FILE"),
+    "A file with the WORDs: those of all its lines, with single spaces between them",
+);
+
+/// The option for the longest that a command tries to open a library.
+pub(crate) const WAIT: Word = Word(
+    "wait",
+    Form::Default("SECONDS", "3"),
+    "For how long to try while another process has the library open: 0 to 86400",
 );
 
 pub(crate) const CHECKED: Word = Word(
@@ -85,6 +106,12 @@ const AREAS: Allowed = Allowed(
 
 const WORKER_COUNTS: Allowed = Allowed(1, 8, "N is a decimal number from 1 to 8");
 
+const WORD_COUNTS: Allowed = Allowed(0, MOST_WORDS, "N is a decimal number from 0 to 4294967295");
+
+const WAITS: Allowed = Allowed(0, 86_400, "SECONDS is a decimal number from 0 to 86400");
+
+pub(crate) const INPUT_BOTH_RULE: &str = "the input comes as WORDs or by --input, and not by both";
+
 const INPUT_RULE: &str =
     "WORD is a decimal number from 0 to 4294967295; a negative number is written as its value modulo 4294967296, \
     for example 4294967295 for -1";
@@ -123,11 +150,18 @@ pub(crate) fn number_if_given(
     }
 }
 
+/// How many steps or instructions a run may take at most, which the word of this name gives.
+pub(crate) fn steps_at(given: &ArgMatches<'_>, name: &'static str) -> Result<u64, Refused>
+    ensures { IfOk result (λ steps. steps ≤ MOST_STEPS) }
+{
+    number_of(given, name, STEP_COUNTS)
+}
+
 /// How many steps or instructions a run may take at most.
 pub(crate) fn steps_of(given: &ArgMatches<'_>) -> Result<u64, Refused>
     ensures { IfOk result (λ steps. steps ≤ MOST_STEPS) }
 {
-    number_of(given, "STEPS", STEP_COUNTS)
+    steps_at(given, "STEPS")
 }
 
 // The words that these texts write; `None` if one of them is not a word.
@@ -142,12 +176,42 @@ fn words_in(alloc: Global, texts: &[&str]) -> Result<Option<Vec<u32>>, AllocErro
     Ok(Some(words))
 }
 
-/// The input of a run.
-pub(crate) fn input_of(alloc: Global, given: &ArgMatches<'_>) -> Result<Vec<u32>, Refused> {
-    match words_in(alloc, given.get_strs("WORD").unwrap_or(&[]))? {
+/// The input of a run, which these texts write.
+pub(crate) fn input_in(alloc: Global, texts: &[&str]) -> Result<Vec<u32>, Refused> {
+    match words_in(alloc, texts)? {
         Some(words) => Ok(words),
         None => Err(Refused::ByWord(INPUT_RULE, INPUT.0)),
     }
+}
+
+/// The input of a run.
+pub(crate) fn input_of(alloc: Global, given: &ArgMatches<'_>) -> Result<Vec<u32>, Refused> {
+    input_in(alloc, given.get_strs("WORD").unwrap_or(&[]))
+}
+
+/// The path of the file that has the input, if one is named. Then no WORD may be given.
+pub(crate) fn input_file_of(
+    alloc: Global,
+    given: &ArgMatches<'_>,
+) -> Result<Option<String>, Refused> {
+    if given.get_str("input").is_some() && given.get_strs("WORD").is_some() {
+        return Err(Refused::ByCommand(INPUT_BOTH_RULE));
+    }
+    path_if_given(alloc, given, "input")
+}
+
+/// The most words that a run may write, if that is given.
+pub(crate) fn most_of(given: &ArgMatches<'_>) -> Result<Option<u64>, Refused>
+    ensures { IfOk result (λ most. IfSome most (λ n. n ≤ MOST_WORDS)) }
+{
+    number_if_given(given, "words", WORD_COUNTS)
+}
+
+/// How many seconds a command tries to open a library that another process has open.
+pub(crate) fn wait_of(given: &ArgMatches<'_>) -> Result<u64, Refused>
+    ensures { IfOk result (λ wait. wait ≤ 86400) }
+{
+    number_of(given, "wait", WAITS)
 }
 
 /// Refuses the words that a command does not take, if any is given.
@@ -240,6 +304,18 @@ pub(crate) fn path_of(
         Some(path) if !path.is_empty() => Ok(String::from_str(alloc, path)?),
         _ => Err(Refused::ByCommand(PATH_RULE)),
     }
+}
+
+/// As `path_of`, if the word is given.
+pub(crate) fn path_if_given(
+    alloc: Global,
+    given: &ArgMatches<'_>,
+    name: &str,
+) -> Result<Option<String>, Refused> {
+    if given.get_str(name).is_none() {
+        return Ok(None);
+    }
+    Ok(Some(path_of(alloc, given, name)?))
 }
 
 /// A unit of the library in a file: the path of the file, and the name as it was given.

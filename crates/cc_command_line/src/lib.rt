@@ -4,8 +4,9 @@
 //! about it.
 //!
 //! - `row`: a command as a row of a table, from which its parser is made; `commands`: the table.
-//! - `program`, `watch`, `unit`, `keeping`, `library`, `spool`: the rows, each with what its words ask for. `given` has the words that several
-//!   commands share, `files` the files of a program, `json` the option for JSON, `numbers` the numbers.
+//! - `program`, `watch`, `unit`, `keeping`, `library`, `short`, `pack`, `spool`, `translate`: the rows, each with what its words ask for.
+//!   `given` has the words that several commands share, `live` those of runs that take words while they run, `files` the files of a program,
+//!   `json` the option for JSON, `numbers` the numbers.
 //! - `command_line` reads a command line, `refused` has the errors for words that break a rule, `tips` what a person may have meant,
 //!   `telling` prints them.
 //!
@@ -20,20 +21,28 @@ mod given;
 mod json;
 mod keeping;
 mod library;
+mod live;
 mod numbers;
+mod pack;
 mod program;
 mod refused;
 mod row;
+mod short;
 mod spool;
 mod telling;
 mod tips;
+mod translate;
 mod unit;
 mod watch;
 
 pub use command_line::{Invocation, Work, line, read_invocation, refused_bytes};
-pub use keeping::{Calling, Copying, Keeping, Measuring, Restoring};
+pub use keeping::{Calling, Comparing, Copying, Keeping, Logging, Measuring, Restoring};
 pub use library::Session;
+pub use live::Living;
+pub use pack::{PackVerb, Packing};
+pub use short::{Short, ShortVerb};
 pub use spool::{Server, Submitter};
 pub use telling::{NoRequest, read_or_tell, tell_bytes};
+pub use translate::Translating;
 pub use unit::Wanted;
 pub use watch::{Covered, Traced};

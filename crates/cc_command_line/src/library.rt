@@ -5,7 +5,7 @@ ghost use Rattle.cc_command_line.specs.Work.{IsAllowed};
 
 use crate::command_line::Work;
 use crate::given::{
-    ALL_CHECKED, DISK, FORMAT, WORKERS, area_if_given, kind_of, path_of, workers_of,
+    ALL_CHECKED, DISK, FORMAT, WAIT, WORKERS, area_if_given, kind_of, path_of, wait_of, workers_of,
 };
 use crate::refused::Refused;
 use crate::row::{Form, Reader, Row, Word};
@@ -15,7 +15,7 @@ use std::alloc::Global;
 
 // ORDER ScriptCommand
 // What a person reads below the options of the command.
-pub(crate) const LIBRARY_HELP: &str = "\
+const LIBRARY_HELP: &str = "\
 The script comes on standard input, one command a line:
   add NAME LEN       compile the LEN bytes that follow the line, and keep them as the unit NAME
   replace NAME LEN   the same in place of the unit that NAME has
@@ -54,6 +54,7 @@ pub(crate) static LIBRARY: Row = Row {
             "End with the status 1 if an answer is a fault",
         ),
         ALL_CHECKED,
+        WAIT,
     ],
     help: LIBRARY_HELP,
 };
@@ -73,6 +74,8 @@ pub struct Session {
     pub is_strict: bool,
     /// How the images of the session are compiled.
     pub kind: Kind,
+    /// How many seconds to try while another process has the library open: 0 to 86,400.
+    pub wait: u64,
 }
 
 /// What `library` asks for.
@@ -81,6 +84,7 @@ pub(crate) fn library_of(alloc: Global, given: &ArgMatches<'_>) -> Result<Work, 
 {
     let area = area_if_given(given)?;
     let workers = workers_of(given)?;
+    let wait = wait_of(given)?;
     let disk = path_of(alloc, given, "DISK")?;
     Ok(Work::Library(Session {
         disk,
@@ -89,5 +93,6 @@ pub(crate) fn library_of(alloc: Global, given: &ArgMatches<'_>) -> Result<Work, 
         workers,
         is_strict: given.get_flag("strict"),
         kind: kind_of(given),
+        wait,
     }))
 }

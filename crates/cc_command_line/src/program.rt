@@ -6,9 +6,10 @@ ghost use Rattle.cc_command_line.specs.Work.{IsAllowed};
 use crate::command_line::Work;
 use crate::files::{FILE, FILES};
 use crate::given::{
-    CHECKED, COUNT, INPUT, INSTRUCTIONS, READS, STEPS, UNEXPECTED, expect_no_more, input_of,
-    kind_of, steps_of, text_if_given,
+    CHECKED, COUNT, INPUT, INPUT_FILE, INSTRUCTIONS, READS, STEPS, UNEXPECTED, WORDS,
+    expect_no_more, input_of, kind_of, most_of, steps_of, text_if_given,
 };
+use crate::live::{LIVE, ZEROS, live_of};
 use crate::refused::Refused;
 use crate::row::{Form, Reader, Row, Word};
 use cc_task::Task;
@@ -24,13 +25,24 @@ pub(crate) static CHECK: Row = Row {
     help: "The program comes on standard input, or in files: cclib check main.c table.c",
 };
 
+// What a person reads below the words of `interpret`.
+const INTERPRET_HELP: &str = "\
+The program comes on standard input: cclib interpret 1000 < examples/quotient.c";
+
+// What a person reads below the words of `run`.
+const RUN_HELP: &str = "\
+The program comes on standard input: cclib run 1000 < examples/quotient.c
+
+With --live it comes in files. STEPS bounds each turn, from a line of standard input to the next wait:
+  cclib run 10000 --live -f examples/checksum.c";
+
 pub(crate) static INTERPRET: Row = Row {
     name: "interpret",
     reader: Reader::Interpret,
     whole: "cclib interpret",
     about: "Print the words that the program writes, and how it ends, by the definition of C",
-    words: &[STEPS, INPUT, FILE, COUNT, READS],
-    help: "The program comes on standard input: cclib interpret 1000 < examples/quotient.c",
+    words: &[STEPS, INPUT, FILE, COUNT, READS, INPUT_FILE, WORDS],
+    help: INTERPRET_HELP,
 };
 
 pub(crate) static RUN: Row = Row {
@@ -38,8 +50,19 @@ pub(crate) static RUN: Row = Row {
     reader: Reader::Run,
     whole: "cclib run",
     about: "Compile the program and run its image: print the words that it writes, and how it ends",
-    words: &[INSTRUCTIONS, INPUT, FILE, CHECKED, COUNT, READS],
-    help: "The program comes on standard input: cclib run 1000 < examples/quotient.c",
+    words: &[
+        INSTRUCTIONS,
+        INPUT,
+        FILE,
+        CHECKED,
+        COUNT,
+        READS,
+        INPUT_FILE,
+        WORDS,
+        LIVE,
+        ZEROS,
+    ],
+    help: RUN_HELP,
 };
 
 pub(crate) static ASM: Row = Row {
@@ -78,6 +101,10 @@ pub(crate) static SAFE: Row = Row {
     help: "The program comes on standard input, or in files: cclib safe -f main.c -f table.c",
 };
 
+const TELLING_RULE: &str = "--count and --reads do not go together";
+
+const WORDS_RULE: &str = "--words does not go with --count or --reads";
+
 // What a run says beside its answer.
 #[derive(Clone, Copy)]
 enum Telling {
@@ -86,13 +113,14 @@ enum Telling {
     Reads,
 }
 
-// What `--count` and `--reads` ask for.
-fn telling_of(given: &ArgMatches<'_>) -> Result<Telling, Refused> {
+// What `--count` and `--reads` ask for, given whether the words that the run writes are bounded.
+fn telling_of(given: &ArgMatches<'_>, is_bounded: bool) -> Result<Telling, Refused> {
     match (given.get_flag("count"), given.get_flag("reads")) {
         (false, false) => Ok(Telling::Nothing),
+        (true, true) => Err(Refused::ByCommand(TELLING_RULE)),
+        (_, _) if is_bounded => Err(Refused::ByCommand(WORDS_RULE)),
         (true, false) => Ok(Telling::Count),
         (false, true) => Ok(Telling::Reads),
-        (true, true) => Err(Refused::ByCommand("--count and --reads do not go together")),
     }
 }
 
@@ -101,12 +129,14 @@ pub(crate) fn interpret_of(alloc: Global, given: &ArgMatches<'_>) -> Result<Work
     ensures { IfOk result IsAllowed }
 {
     let steps = steps_of(given)?;
-    let telling = telling_of(given)?;
+    let most = most_of(given)?;
+    let telling = telling_of(given, most.is_some())?;
     let words = input_of(alloc, given)?;
-    Ok(Work::One(match telling {
-        Telling::Nothing => Task::Interpret(steps, words),
-        Telling::Count => Task::InterpretCounted(steps, words),
-        Telling::Reads => Task::InterpretObserved(steps, words),
+    Ok(Work::One(match (telling, most) {
+        (Telling::Nothing, None) => Task::Interpret(steps, words),
+        (Telling::Nothing, Some(most)) => Task::InterpretWithin(steps, most, words),
+        (Telling::Count, _) => Task::InterpretCounted(steps, words),
+        (Telling::Reads, _) => Task::InterpretObserved(steps, words),
     }))
 }
 
@@ -115,13 +145,18 @@ pub(crate) fn run_of(alloc: Global, given: &ArgMatches<'_>) -> Result<Work, Refu
     ensures { IfOk result IsAllowed }
 {
     let kind = kind_of(given);
+    if given.get_flag("live") {
+        return live_of(given, kind);
+    }
     let steps = steps_of(given)?;
-    let telling = telling_of(given)?;
+    let most = most_of(given)?;
+    let telling = telling_of(given, most.is_some())?;
     let words = input_of(alloc, given)?;
-    Ok(Work::One(match telling {
-        Telling::Nothing => Task::Run(kind, steps, words),
-        Telling::Count => Task::RunCounted(kind, steps, words),
-        Telling::Reads => Task::RunObserved(kind, steps, words),
+    Ok(Work::One(match (telling, most) {
+        (Telling::Nothing, None) => Task::Run(kind, steps, words),
+        (Telling::Nothing, Some(most)) => Task::RunWithin(kind, steps, most, words),
+        (Telling::Count, _) => Task::RunCounted(kind, steps, words),
+        (Telling::Reads, _) => Task::RunObserved(kind, steps, words),
     }))
 }
 

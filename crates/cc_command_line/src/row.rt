@@ -3,6 +3,14 @@
 use clap::{Arg, ArgAction, Command};
 use std::alloc::{AllocError, Global};
 
+const CALL_USAGE: &str = "\
+cclib call [OPTIONS] <DISK> <NAME> <STEPS> [WORD]...
+       cclib call [OPTIONS] --unit <FILE> <STEPS> [WORD]...";
+
+const AUDIT_USAGE: &str = "\
+cclib audit [OPTIONS] <DISK> [NAME]
+       cclib audit [OPTIONS] --unit <FILE>";
+
 /// What a word of a command is.
 #[derive(Clone, Copy)]
 pub(crate) enum Form {
@@ -10,8 +18,12 @@ pub(crate) enum Form {
     Optional,
     /// A word that has to be given.
     Required,
+    /// A word that has to be given unless the option of this name is.
+    RequiredUnless(&'static str),
     /// A number that has to be given: -1 is such a word, and not an option.
     Number,
+    /// Such a number that has to be given unless the option of this name is.
+    NumberUnless(&'static str),
     /// Any number of words.
     Several,
     /// Any number of numbers.
@@ -63,8 +75,18 @@ pub(crate) enum Reader {
     Restore,
     Copy,
     Library,
+    Add,
+    Replace,
+    Withdraw,
+    List,
+    Audit,
+    Compact,
+    Pack,
+    Unpack,
+    Hash,
     Serve,
     Submit,
+    Translate,
 }
 
 /// A command.
@@ -96,8 +118,12 @@ fn form_of<'a>(alloc: Global, name: &'static str, form: &Form) -> Result<Arg<'a>
     Ok(match form {
         Form::Optional => Arg::new(alloc, name),
         Form::Required => Arg::new(alloc, name).required(true),
+        Form::RequiredUnless(other) => Arg::new(alloc, name).required_unless_present(other)?,
         Form::Number => Arg::new(alloc, name)
             .required(true)
+            .allow_negative_numbers(true),
+        Form::NumberUnless(other) => Arg::new(alloc, name)
+            .required_unless_present(other)?
             .allow_negative_numbers(true),
         Form::Several => Arg::new(alloc, name).num_args(0..),
         Form::Numbers => Arg::new(alloc, name)
@@ -136,10 +162,22 @@ pub(crate) fn with_words<'a>(
     Ok(parser)
 }
 
+// The usage of a command whose words come in two ways. For the others it is made from the row.
+fn usage_of(reader: Reader) -> Option<&'static str> {
+    match reader {
+        Reader::Call => Some(CALL_USAGE),
+        Reader::Audit => Some(AUDIT_USAGE),
+        _ => None,
+    }
+}
+
 /// The parser of one command.
 pub(crate) fn command_of<'a>(alloc: Global, row: &'static Row) -> Result<Command<'a>, AllocError> {
-    let parser = Command::new(alloc, row.name)
+    let mut parser = Command::new(alloc, row.name)
         .about(row.about)
         .after_help(row.help);
+    if let Some(usage) = usage_of(row.reader) {
+        parser = parser.override_usage(usage);
+    }
     with_words(alloc, parser, row.words)
 }

@@ -6,8 +6,8 @@ ghost use Rattle.cc_command_line.specs.Work.{IsAllowed};
 use crate::command_line::Work;
 use crate::files::FILE;
 use crate::given::{
-    ALL_CHECKED, Allowed, DISK, FORMAT, WORKERS, area_if_given, kind_of, number_if_given,
-    number_of, path_of, workers_of,
+    ALL_CHECKED, Allowed, DISK, FORMAT, WAIT, WORKERS, area_if_given, kind_of, number_if_given,
+    number_of, path_of, wait_of, workers_of,
 };
 use crate::refused::Refused;
 use crate::row::{Form, Reader, Row, Word};
@@ -115,6 +115,7 @@ pub(crate) static SERVE: Row = Row {
             "For how long a script may be at work while others wait: 1 to 86400",
         ),
         ALL_CHECKED,
+        WAIT,
     ],
     help: SERVE_HELP,
 };
@@ -168,6 +169,8 @@ pub struct Server {
     /// How many seconds a script may be at work while other scripts wait for a client, or while the end of a generation or of
     /// the server waits for it: 1 to 86,400.
     pub patience: u32,
+    /// How many seconds to try while another process has the library open: 0 to 86,400.
+    pub wait: u64,
 }
 
 /// A script for a server.
@@ -224,6 +227,7 @@ pub(crate) fn serve_of(alloc: Global, given: &ArgMatches<'_>) -> Result<Work, Re
         done,
         patience,
     } = limits_of(given)?;
+    let wait = wait_of(given)?;
     let disk = path_of(alloc, given, "DISK")?;
     let folder = path_of(alloc, given, "FOLDER")?;
     Ok(Work::Serve(Server {
@@ -236,11 +240,12 @@ pub(crate) fn serve_of(alloc: Global, given: &ArgMatches<'_>) -> Result<Work, Re
         keep,
         done,
         patience,
+        wait,
     }))
 }
 
 // How many seconds a script waits, if that is given.
-fn wait_of(given: &ArgMatches<'_>) -> Result<Option<u32>, Refused>
+fn patience_of(given: &ArgMatches<'_>) -> Result<Option<u32>, Refused>
     ensures { IfOk result (λ wait. IfSome wait (λ seconds. (1 ≤ seconds) × (seconds ≤ 86400))) }
 {
     match number_if_given(given, "wait", SECONDS) {
@@ -333,7 +338,7 @@ fn sent_by(alloc: Global, words: &[&str]) -> Result<Sent, AllocError> {
 pub(crate) fn submit_of(alloc: Global, given: &ArgMatches<'_>) -> Result<Work, Refused>
     ensures { IfOk result IsAllowed }
 {
-    let wait = wait_of(given)?;
+    let wait = patience_of(given)?;
     let words = given.get_strs("COMMAND").unwrap_or(&[]);
     let folder = path_of(alloc, given, "FOLDER")?;
     let was = was_of(alloc, given, words)?;

@@ -2,7 +2,6 @@
 
 use crate::files::FILE;
 use crate::given::UNEXPECTED;
-use crate::library::LIBRARY_HELP;
 use crate::row::{Form, Row};
 use crate::spool::SUBMIT_HELP;
 use clap::ArgMatches;
@@ -106,19 +105,7 @@ pub(crate) fn no_command_text<'a, S: AsStr>(
             "unrecognized subcommand '{name}'\n\n  tip: a command comes first: cclib check {name}"
         )?));
     };
-    let mut text = format!(in alloc; "'{name}' is a line of a script, and no command\n")?;
-    if let Some(form) = form_in(LIBRARY_HELP, name) {
-        match form.strip_suffix(" LEN") {
-            Some(form) => write!(
-                text,
-                "\n  tip: {{ echo {form} $(wc -c < FILE); cat FILE; }} | cclib library DISK"
-            )?,
-            None => write!(text, "\n  tip: echo {form} | cclib library DISK")?,
-        }
-    }
-    write!(
-        text,
-        "\n  tip: with a server: cclib submit FOLDER {submitted}"
-    )?;
-    Ok(Some(text))
+    Ok(Some(format!(in alloc;
+        "'{name}' is a line of a script, and no command\n\n  tip: with a server: cclib submit FOLDER {submitted}"
+    )?))
 }

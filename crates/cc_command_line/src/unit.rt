@@ -6,7 +6,9 @@ ghost use Rattle.cc_command_line.specs.Work.{IsAllowed};
 
 use crate::command_line::Work;
 use crate::files::FILE;
-use crate::given::{Allowed, CHECKED, DISK, NAME, Unit, kind_of, number_if_given, unit_of};
+use crate::given::{
+    Allowed, CHECKED, DISK, NAME, Unit, WAIT, kind_of, number_if_given, unit_of, wait_of,
+};
 use crate::keeping::{Keeping, Measuring};
 use crate::refused::Refused;
 use crate::row::{Form, Reader, Row, Word};
@@ -71,7 +73,7 @@ pub(crate) static SIZE: Row = Row {
     reader: Reader::Size,
     whole: "cclib size",
     about: "Show how much memory an image takes: its code, its globals, and a stack that is enough",
-    words: &[CHECKED, ANY_DISK, ANY_NAME, FILE],
+    words: &[CHECKED, ANY_DISK, ANY_NAME, FILE, WAIT],
     help: SIZE_HELP,
 };
 
@@ -95,6 +97,7 @@ pub(crate) static IMAGE: Row = Row {
             "Print what command K of `cclib log DISK` stored, in place of what the library has now",
         ),
         FILE,
+        WAIT,
     ],
     help: IMAGE_HELP,
 };
@@ -112,6 +115,7 @@ pub(crate) static SOURCE: Row = Row {
             Form::Value("K"),
             "Print what command K of `cclib log DISK` stored, in place of what the library has now",
         ),
+        WAIT,
     ],
     help: SOURCE_HELP,
 };
@@ -127,6 +131,8 @@ pub struct Wanted {
     pub part: Part,
     /// The number of the command that stored the wanted unit; `None` for the unit that the library has now.
     pub at: Option<u64>,
+    /// How many seconds to try while another process has the library open: 0 to 86,400.
+    pub wait: u64,
 }
 
 // The number of the command that is asked for, if one is.
@@ -143,12 +149,14 @@ fn wanted_of(
 ) -> Result<Work, Refused>
     ensures { IfOk result IsAllowed }
 {
+    let wait = wait_of(given)?;
     let Unit { disk, name } = unit_of(alloc, given)?;
     Ok(Work::TakeOut(Wanted {
         disk,
         name,
         part,
         at,
+        wait,
     }))
 }
 
@@ -204,6 +212,12 @@ pub(crate) fn size_of(alloc: Global, given: &ArgMatches<'_>) -> Result<Work, Ref
     if given.get_str("NAME").is_none() {
         return Err(Refused::ByWord(SIZE_BOTH_RULE, "DISK"));
     }
+    let wait = wait_of(given)?;
     let Unit { disk, name } = unit_of(alloc, given)?;
-    Ok(Work::Keep(Keeping::Size(Measuring { disk, name, kind })))
+    Ok(Work::Keep(Keeping::Size(Measuring {
+        disk,
+        name,
+        kind,
+        wait,
+    })))
 }

@@ -1,7 +1,9 @@
 // Whether a block device may be overwritten with a library. The check is a help and not a promise, since the system may begin
 // to use a device at any moment.
 
-use cc_disk::{Disk, FileDisk};
+ghost use Rattle.std.specs.Prelude.{⊤};
+
+use cc_disk::{Disk, FileDisk, OpenFault};
 use cc_library::LibraryFault;
 use std::fs;
 use std::os::unix::fs::{FileTypeExt, MetadataExt};
@@ -13,6 +15,8 @@ pub enum NoDisk {
     Refused(LibraryFault),
     /// 34: the device has fewer bytes than the library takes.
     SmallDevice,
+    /// 35: another process has the file open, and still had it when the time to wait was over.
+    FileInUse,
     /// 35: the device is mounted or used for swapping, or another device is built on it.
     DeviceInUse,
     /// 35: the device has something on it that is not a library.
@@ -27,9 +31,19 @@ impl NoDisk {
         match self {
             NoDisk::Refused(fault) => *fault,
             NoDisk::SmallDevice => LibraryFault::Full,
-            NoDisk::DeviceInUse | NoDisk::OtherContent | NoDisk::Prepared => {
-                LibraryFault::DiskFault
-            }
+            NoDisk::FileInUse | NoDisk::DeviceInUse | NoDisk::OtherContent | NoDisk::Prepared =>
+                LibraryFault::DiskFault,
+        }
+    }
+}
+
+impl From<OpenFault> for NoDisk {
+    ghost from_gives = { λ _ _. ⊤ };
+
+    fn from(fault: OpenFault) -> NoDisk {
+        match fault {
+            OpenFault::InUse => NoDisk::FileInUse,
+            OpenFault::DeviceFailed => NoDisk::Refused(LibraryFault::DiskFault),
         }
     }
 }

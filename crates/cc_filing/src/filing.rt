@@ -4,9 +4,11 @@ ghost use Rattle.std.specs.Prelude.{◌≡◌};
 
 use crate::device::{NoDisk, is_prepared, may_overwrite};
 use crate::folder::word;
+use crate::taking::explain_part;
+use crate::waiting::{USUAL_WAIT, open_to_change, open_to_read};
 use cc_answers::explain_words;
 use cc_command_line::Session;
-use cc_disk::FileDisk;
+use cc_disk::{FileDisk, OpenFault};
 use cc_journal::format;
 use cc_library::{Library, LibraryFault};
 use cc_tasks::PartFault;
@@ -26,15 +28,42 @@ const IN_USE: &str =
 /// What a person reads if a block device is too small.
 const SMALL: &str = "cclib: the device has fewer than 16 + 2 * AREA bytes\n";
 
-/// The disk on the file. If an area is given, the file is made anew and formatted.
-pub fn disk_of(files: &HostRuntime, path: &str, area: Option<u32>) -> Result<FileDisk, NoDisk> {
+/// The disk on the file of an existing library, for a command that only reads it: others may read it at the same time. It waits
+/// this many seconds for a process that changes it.
+pub fn disk_to_read(files: &HostRuntime, path: &str, wait: u64) -> Result<FileDisk, NoDisk> {
+    Ok(open_to_read(files, path, wait)?)
+}
+
+/// The disk on the file of an existing library, for a command that changes it. It waits this many seconds for other processes.
+pub fn disk_to_change(files: &HostRuntime, path: &str, wait: u64) -> Result<FileDisk, NoDisk> {
+    Ok(open_to_change(files, path, wait)?)
+}
+
+// Waits this many seconds until no other process has the file open, if the file is there.
+fn wait_until_free(files: &HostRuntime, path: &str, wait: u64) -> Result<(), NoDisk> {
+    match open_to_change(files, path, wait) {
+        Ok(disk) => {
+            drop(disk);
+            Ok(())
+        }
+        Err(OpenFault::InUse) => Err(NoDisk::FileInUse),
+        // The file is not there, or whoever writes it anew says why that fails.
+        Err(OpenFault::DeviceFailed) => Ok(()),
+    }
+}
+
+// The disk on the file. If an area is given, the file is made anew and formatted.
+fn disk_of(
+    files: &HostRuntime,
+    path: &str,
+    area: Option<u32>,
+    wait: u64,
+) -> Result<FileDisk, NoDisk> {
     let Some(area) = area else {
-        return match FileDisk::open(files, path) {
-            Ok(disk) => Ok(disk),
-            Err(_) => Err(NoDisk::Refused(LibraryFault::DiskFault)),
-        };
+        return disk_to_change(files, path, wait);
     };
     let size = size_for(area);
+    wait_until_free(files, path, wait)?;
     may_overwrite(files, path, size)?;
     match FileDisk::create(files, path, size) {
         Ok(disk) => formatted(disk, area),
@@ -42,9 +71,9 @@ pub fn disk_of(files: &HostRuntime, path: &str, area: Option<u32>) -> Result<Fil
     }
 }
 
-/// The disk on the file of an existing library, for a command that reads it.
+/// The disk on the file of an existing library, as `disk_to_read` opens it if the command line says nothing about waiting.
 pub fn library_disk(files: &HostRuntime, path: &str) -> Result<FileDisk, PartFault> {
-    match disk_of(files, path, None) {
+    match disk_to_read(files, path, USUAL_WAIT) {
         Ok(disk) => Ok(disk),
         Err(reason) => Err(PartFault::Library(reason.fault())),
     }
@@ -135,10 +164,11 @@ pub fn disk_to_serve<E: Write>(
     files: &HostRuntime,
     path: &str,
     area: Option<u32>,
+    wait: u64,
     told: &mut E,
 ) -> Result<FileDisk, NoDisk> {
     let Some(area) = area else {
-        return disk_of(files, path, None);
+        return disk_to_change(files, path, wait);
     };
     let Ok(making) = format!(in files.alloc(); "{path}.new") else {
         return Err(NoDisk::Refused(LibraryFault::OutOfMemory));
@@ -152,7 +182,7 @@ pub fn disk_to_serve<E: Write>(
             "cclib: {path} is there, and is opened as it is; `--format` is for a new file"
         );
         let _ = told.flush();
-        return disk_of(files, path, None);
+        return disk_to_change(files, path, wait);
     }
     let disk = disk_to_name(files, making.as_str(), area)?;
     match name_disk(files, making.as_str(), path) {
@@ -165,8 +195,8 @@ pub fn disk_to_serve<E: Write>(
 }
 
 // How many units the library in a file has. 0 if the file can't be read or is damaged, and if it is no library. Nothing is written.
-fn count_units(files: &HostRuntime, path: &str) -> usize {
-    let Ok(disk) = FileDisk::open(files, path) else {
+fn count_units(files: &HostRuntime, path: &str, wait: u64) -> usize {
+    let Ok(disk) = open_to_read(files, path, wait) else {
         return 0;
     };
     match Library::open(files.alloc(), disk) {
@@ -207,14 +237,14 @@ pub fn disk_of_session<E: Write>(
 ) -> Result<FileDisk, NoDisk> {
     let path = asked.disk.as_str();
     if asked.is_if_new {
-        return disk_to_serve(files, path, asked.area, told);
+        return disk_to_serve(files, path, asked.area, asked.wait, told);
     }
     let units = if asked.area.is_some() && !is_quiet {
-        count_units(files, path)
+        count_units(files, path, asked.wait)
     } else {
         0
     };
-    let disk = disk_of(files, path, asked.area)?;
+    let disk = disk_of(files, path, asked.area, asked.wait)?;
     let _ = tell_dropped(path, units, told);
     Ok(disk)
 }
@@ -224,6 +254,7 @@ fn explain<E: Write>(reason: NoDisk, path: &str, errors: &mut E) -> io::Result<(
     match reason {
         NoDisk::Refused(LibraryFault::DiskFault) => errors.write_all(NO_FILE.as_bytes())?,
         NoDisk::Refused(fault) => explain_words(fault.number(), errors)?,
+        NoDisk::FileInUse => writeln!(errors, "cclib: {path}: another process has it open")?,
         NoDisk::SmallDevice => errors.write_all(SMALL.as_bytes())?,
         NoDisk::DeviceInUse => errors.write_all(IN_USE.as_bytes())?,
         NoDisk::OtherContent => writeln!(
@@ -238,7 +269,7 @@ fn explain<E: Write>(reason: NoDisk, path: &str, errors: &mut E) -> io::Result<(
     errors.flush()
 }
 
-/// Writes why there is no disk, and explains it. Returns the status.
+/// Writes why there is no disk for a session or a server, and explains it. Returns the status.
 pub fn no_disk<W: Write, E: Write>(reason: NoDisk, path: &str, writer: &mut W, errors: &mut E) -> u8
     ensures { result ≡ 1 }
 {
@@ -246,5 +277,29 @@ pub fn no_disk<W: Write, E: Write>(reason: NoDisk, path: &str, writer: &mut W, e
     let _ = writeln!(writer, "fault {} {fault}", fault.number());
     let _ = writer.flush();
     let _ = explain(reason, path, errors);
+    1
+}
+
+// Explains to a person why the file of an existing library could not be opened.
+fn explain_closed<E: Write>(reason: NoDisk, path: &str, errors: &mut E) -> io::Result<()> {
+    match reason {
+        NoDisk::FileInUse => explain(reason, path, errors),
+        reason => explain_part(PartFault::Library(reason.fault()), errors),
+    }
+}
+
+/// Writes why the file of an existing library could not be opened, and explains it. Returns the status.
+pub fn no_library<W: Write, E: Write>(
+    reason: NoDisk,
+    path: &str,
+    writer: &mut W,
+    errors: &mut E,
+) -> u8
+    ensures { result ≡ 1 }
+{
+    let fault = reason.fault();
+    let _ = writeln!(writer, "fault {} {fault}", fault.number());
+    let _ = writer.flush();
+    let _ = explain_closed(reason, path, errors);
     1
 }

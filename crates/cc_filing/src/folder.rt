@@ -186,7 +186,7 @@ pub fn take_to_serve<W: Write, E: Write>(
     };
     // The disk is locked before the scripts that an earlier server left are answered.
     let path = asked.disk.as_str();
-    let disk = match disk_to_serve(files, path, asked.area, told) {
+    let disk = match disk_to_serve(files, path, asked.area, asked.wait, told) {
         Ok(disk) => disk,
         Err(reason) => return Ok(Err(no_disk(reason, path, writer, told))),
     };

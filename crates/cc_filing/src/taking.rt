@@ -1,14 +1,15 @@
 // The commands `image` and `source` with a library: they print a part of a unit that the library in a file has. The file is
-// opened as for `library`, with its lock, and nothing is written to it.
+// opened for reading alone.
 
 ghost use Rattle.std.specs.Prelude.{◌≡◌, false, true, MatchResult};
 ghost use Rattle.std.specs.Io.KnownBytes.{Appends};
 ghost use Rattle.cc_tasks.specs.Written.{found_text};
 
-use crate::filing::library_disk;
+use crate::filing::{disk_to_read, no_library};
 use crate::printing::buffers;
 use cc_answers::explain_words;
 use cc_command_line::Wanted;
+use cc_disk::Disk;
 use cc_library::LibraryFault;
 use cc_screen::Screen;
 use cc_tasks::{Done, PartFault, take_out, write_part};
@@ -22,14 +23,13 @@ const NO_FILE: &str =
 /// What a person reads if the file is not a library, because of 38.
 const NO_LIBRARY: &str = "cclib: the file is no library\n";
 
-// The bytes of the part that is wanted.
-fn bytes_of<E: Write>(
+// The bytes of the part that is wanted, of a unit on this disk.
+fn bytes_of<D: Disk + Drop, E: Write>(
     alloc: Global,
-    files: &HostRuntime,
+    disk: D,
     wanted: &Wanted,
     errors: &mut E,
 ) -> Result<Vec<u8>, PartFault> {
-    let disk = library_disk(files, wanted.disk.as_str())?;
     let name = wanted.name.as_bytes();
     let (found, disk) = take_out(alloc, disk, name, wanted.part, errors);
     drop(disk);
@@ -101,7 +101,12 @@ pub fn take_out_of_file<R: AllocGlobal + Print, E: Write + Drop>(
 ) -> Result<u8, AllocError> {
     let (buffered, mut told) = buffers(rt.alloc(), io::writer(rt), errors, is_quiet)?;
     let mut writer = Screen::new(buffered, files.stdout().is_terminal());
-    let found = bytes_of(rt.alloc(), files, wanted, &mut told);
+    let path = wanted.disk.as_str();
+    let disk = match disk_to_read(files, path, wanted.wait) {
+        Ok(disk) => disk,
+        Err(reason) => return Ok(no_library(reason, path, &mut writer, &mut told)),
+    };
+    let found = bytes_of(rt.alloc(), disk, wanted, &mut told);
     let done = write_found(found, &mut writer, &mut told);
     Ok(done.status)
 }

@@ -5,7 +5,7 @@ ghost use Rattle.std.specs.Prelude.{◌≤◌, IfOk};
 use super::line::{LineObject, Said, object_of_line};
 use super::object::{Object, write_object};
 use super::performing::status_of;
-use super::place::{told_object, words_in};
+use super::place::{final_in, told_object, words_in};
 use super::telling::add_words;
 use std::alloc::{AllocError, Global};
 use std::io::{self, Write};
@@ -53,6 +53,47 @@ fn add_reason(
     add_words(object, number, words)
 }
 
+// The numbers of the answers whose runs have stopped in place, in the order in which they are explained.
+fn finals_in(alloc: Global, told: &[u8]) -> Result<Vec<u64>, AllocError> {
+    let mut finals = Vec::new(alloc);
+    for line in told.split(|byte| *byte == b'\n') {
+        if let Some(number) = final_in(line) {
+            finals.push(number)?;
+        }
+    }
+    Ok(finals)
+}
+
+// Where the answers are of which it is known whether their runs have stopped in place: the number of the one that is written, and how
+// many of the explained ones come before it.
+#[derive(Clone, Copy)]
+struct Reached {
+    number: u64,
+    passed: usize,
+}
+
+impl Reached {
+    // After an empty line comes the next answer.
+    fn after_line(self, line: &[u8]) -> Reached {
+        Reached {
+            number: if line.is_empty() {
+                self.number.saturating_add(1)
+            } else {
+                self.number
+            },
+            passed: self.passed,
+        }
+    }
+
+    // Whether the run of this answer has stopped in place.
+    fn is_final(self, finals: &[u64]) -> bool {
+        match finals.get(self.passed) {
+            Some(number) => *number == 0 || *number == self.number,
+            None => false,
+        }
+    }
+}
+
 // Writes the lines of the answer, each as an object. The first fault gets the words, if there are any. The result is whether it
 // got them.
 fn write_answers<W: Write>(
@@ -66,8 +107,20 @@ fn write_answers<W: Write>(
     let Some(lines) = ended.answers.strip_suffix(b"\n") else {
         return Ok(false);
     };
+    let finals = finals_in(alloc, ended.told)?;
+    let mut reached = Reached {
+        number: 1,
+        passed: 0,
+    };
     for line in lines.split(|byte| *byte == b'\n') {
         let LineObject { mut object, said } = object_of_line(alloc, line)?;
+        if let Said::End = said
+            && reached.is_final(finals.as_slice())
+        {
+            object.truth("final")?;
+            reached.passed = reached.passed.saturating_add(1);
+        }
+        reached = reached.after_line(line);
         if let Said::Fault(number) = said
             && let Some(words) = words.take()
         {

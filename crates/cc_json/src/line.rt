@@ -1,5 +1,6 @@
 // The object for a line of an answer.
 
+use super::kinds::object_of_kind;
 use super::numbers::{signed, unsigned};
 use super::object::Object;
 use std::alloc::{AllocError, Global};
@@ -188,8 +189,11 @@ pub(crate) fn object_of_line(alloc: Global, line: &[u8]) -> Result<LineObject, A
     if let Some(how) = end_in(line) {
         return end_object(alloc, how);
     }
-    match fault_in(line) {
-        Some((number, rest)) => fault(alloc, number, rest),
+    if let Some((number, rest)) = fault_in(line) {
+        return fault(alloc, number, rest);
+    }
+    match object_of_kind(alloc, line)? {
+        Some(object) => Ok(other(object)),
         None => Ok(other(plain_line(alloc, line)?)),
     }
 }

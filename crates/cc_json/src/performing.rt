@@ -23,6 +23,7 @@ const NO_MEMORY: &[u8] =
 // An empty explanation.
 fn nothing(alloc: Global) -> Explanation {
     Explanation {
+        is_final: false,
         words: None,
         first: None,
         halt: None,
@@ -57,7 +58,13 @@ fn explained(
 ) -> Result<Object, AllocError> {
     let LineObject { mut object, said } = object_of_line(alloc, line)?;
     match said {
-        Said::End | Said::Fault(_) => add_explanation(alloc, &mut object, texts, explanation)?,
+        Said::End => {
+            if explanation.is_final {
+                object.truth("final")?;
+            }
+            add_explanation(alloc, &mut object, texts, explanation)?;
+        }
+        Said::Fault(_) => add_explanation(alloc, &mut object, texts, explanation)?,
         Said::Other => {}
     }
     Ok(object)

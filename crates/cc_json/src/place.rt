@@ -43,6 +43,21 @@ fn placed_object(alloc: Global, placed: Placed<'_>) -> Result<Object, AllocError
     Ok(object)
 }
 
+// What `cc_runs` explains about a run that has stopped in place.
+const FINAL: &[u8] =
+    b"the run has stopped in place: nothing more comes, however many instructions it may take";
+
+/// The number of the answer whose run has stopped in place, if a line says so; 0 if the command has one answer only.
+pub(crate) fn final_in(line: &[u8]) -> Option<u64> {
+    if words_in(line) == Some(FINAL) {
+        return Some(0);
+    }
+    match message_in(line) {
+        Some(placed) if placed.message == FINAL => Some(placed.line),
+        _ => None,
+    }
+}
+
 // How many bytes at the front of a line are spaces.
 fn spaces(line: &[u8]) -> usize {
     line.iter().take_while(|byte| **byte == b' ').count()
@@ -96,9 +111,9 @@ fn further_object(alloc: Global, words: &[u8]) -> Result<Object, AllocError> {
 }
 
 /// The object for a line of explanations; `None` if the object for a fault already says what the line says, if the line only
-/// shows the text, and if it is empty.
+/// shows the text, and if it is empty; and if the object for an end says it.
 pub(crate) fn told_object(alloc: Global, line: &[u8]) -> Result<Option<Object>, AllocError> {
-    if line.is_empty() || is_excerpt(line) || is_said(line) {
+    if line.is_empty() || is_excerpt(line) || is_said(line) || final_in(line).is_some() {
         return Ok(None);
     }
     match message_in(line) {

@@ -4,35 +4,53 @@ ghost use Rattle.std.specs.Prelude.{◌≡◌, ◌≢◌, [], false, true};
 ghost use Rattle.std.specs.Io.KnownBytes.{Appends};
 ghost use Rattle.cc_diff.specs.Written.{diff_text};
 
-use crate::telling::{settled, unwritten};
-use cc_answers::{Stands, explain_words, write_fault_line};
+use crate::telling::{refuse_quietly, settled};
+use cc_answers::explain_words;
+use cc_command_line::Comparing;
 use cc_diff::{DiffFault, DiffLine, diff_disks, write_diff};
-use cc_filing::{buffers, disk_of};
+use cc_filing::{NoDisk, buffers, disk_to_read, no_library};
 use cc_tasks::Done;
 use std::alloc::{AllocError, Global};
 use std::io::{self, Write};
+
+// Why there are no differences to write.
+#[derive(Clone, Copy, Drop)]
+enum NoLines {
+    // 35, 37, 38 or 40: of one of the libraries, or of both.
+    Fault(DiffFault),
+    // 35: another process has the file of the left library open.
+    LeftInUse,
+    // 35: another process has the file of the right library open.
+    RightInUse,
+}
 
 // The differences between the libraries in the files.
 fn lines_of(
     alloc: Global,
     files: &HostRuntime,
-    left: &str,
-    right: &str,
-) -> Result<Vec<DiffLine>, DiffFault> {
-    let left = match disk_of(files, left, None) {
+    asked: &Comparing,
+) -> Result<Vec<DiffLine>, NoLines> {
+    let left = match disk_to_read(files, asked.left.as_str(), asked.wait) {
         Ok(disk) => disk,
-        Err(reason) => return Err(DiffFault::Left(reason.fault())),
+        Err(NoDisk::FileInUse) => return Err(NoLines::LeftInUse),
+        Err(reason) => return Err(NoLines::Fault(DiffFault::Left(reason.fault()))),
     };
-    let right = match disk_of(files, right, None) {
+    let right = match disk_to_read(files, asked.right.as_str(), asked.wait) {
         Ok(disk) => disk,
         Err(reason) => {
             drop(left);
-            return Err(DiffFault::Right(reason.fault()));
+            return Err(match reason {
+                NoDisk::FileInUse => NoLines::RightInUse,
+                reason => NoLines::Fault(DiffFault::Right(reason.fault())),
+            });
         }
     };
     let (lines, disks) = diff_disks(alloc, left, right);
     drop(disks);
-    lines
+    match lines {
+        Ok(lines) => Ok(lines),
+        Err(fault) => Err(NoLines::Fault(fault)),
+    }
 }
 
 // Explains to a person which file has a fault.
@@ -54,6 +72,25 @@ fn explain<E: Write>(fault: DiffFault, left: &str, right: &str, told: &mut E) ->
     told.flush()
 }
 
+// Writes the line of the fault, and explains it. The result is the status.
+fn refuse<W: Write, E: Write>(
+    reason: NoLines,
+    asked: &Comparing,
+    writer: &mut W,
+    told: &mut E,
+) -> u8 {
+    let (left, right) = (asked.left.as_str(), asked.right.as_str());
+    match reason {
+        NoLines::LeftInUse => no_library(NoDisk::FileInUse, left, writer, told),
+        NoLines::RightInUse => no_library(NoDisk::FileInUse, right, writer, told),
+        NoLines::Fault(fault) => {
+            let status = refuse_quietly(fault.number(), writer, told);
+            let _ = explain(fault, left, right, told);
+            status
+        }
+    }
+}
+
 // Writes the lines: the status is 0 if there are none, else 1.
 #[tactic(auto, using(crate::proofs::Settled::settled_text))]
 fn answer<W: Write, E: Write>(lines: &[DiffLine], writer: &mut W, told: &mut E) -> Done
@@ -72,22 +109,14 @@ fn answer<W: Write, E: Write>(lines: &[DiffLine], writer: &mut W, told: &mut E) 
 pub fn diff_files<R: AllocGlobal, A: Write + Drop, E: Write + Drop>(
     rt: &R,
     files: &HostRuntime,
-    left: &str,
-    right: &str,
+    asked: &Comparing,
     is_quiet: bool,
     answers: A,
     errors: E,
 ) -> Result<u8, AllocError> {
     let (mut writer, mut told) = buffers(rt.alloc(), answers, errors, is_quiet)?;
-    Ok(match lines_of(rt.alloc(), files, left, right) {
+    Ok(match lines_of(rt.alloc(), files, asked) {
         Ok(lines) => answer(lines.as_slice(), &mut writer, &mut told).status,
-        Err(fault) => {
-            let line = write_fault_line(fault.number(), Stands::Nowhere, b"", &mut writer);
-            if line.is_err() || writer.flush().is_err() {
-                return Ok(unwritten(&mut told));
-            }
-            let _ = explain(fault, left, right, &mut told);
-            1
-        }
+        Err(reason) => refuse(reason, asked, &mut writer, &mut told),
     })
 }

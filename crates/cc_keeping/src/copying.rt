@@ -9,8 +9,8 @@ use crate::telling::{refuse, refuse_quietly, unwritten};
 use cc_answers::{Persons, tell_audit, tell_ok};
 use cc_command_line::Copying;
 use cc_copy::{LeftOut, Selection, copy_units, least_area, selection_on};
-use cc_disk::FileDisk;
-use cc_filing::{buffers, library_disk, name_disk};
+use cc_disk::{Disk, FileDisk};
+use cc_filing::{buffers, disk_to_read, name_disk, no_library};
 use cc_library::{LibraryFault, Name, UnitMap};
 use cc_tasks::PartFault;
 use cc_watch::AnswerProgress;
@@ -23,15 +23,14 @@ use std::rt::Clock;
 /// The rights of a new file: only its owner may use it.
 const OWN: u32 = 0o600;
 
-// The selected units of the library in the file, which is closed again.
-fn selection_of<S: Write, E: Write>(
+// The selected units of the library on this disk.
+fn selection_of<D: Disk + Drop, S: Write, E: Write>(
     alloc: Global,
-    files: &HostRuntime,
+    disk: D,
     asked: &Copying,
     seen: &mut S,
     told: &mut E,
 ) -> Result<Selection, PartFault> {
-    let disk = library_disk(files, asked.old.as_str())?;
     let names = asked.names.as_slice();
     let (selection, disk) = selection_on(alloc, disk, names, asked.is_confirmed, seen, told);
     drop(disk);
@@ -194,9 +193,10 @@ fn is_told<W: Write>(names: &[Name], left_out: &[LeftOut], writer: &mut W) -> bo
 }
 
 // The selected units, as `selection_of` selects them. A person who sees standard error is shown how many units were audited.
-fn selection_seen<R: AllocGlobal + Clock + Copy + Drop, E: Write>(
+fn selection_seen<R: AllocGlobal + Clock + Copy + Drop, D: Disk + Drop, E: Write>(
     rt: &R,
     files: &HostRuntime,
+    disk: D,
     asked: &Copying,
     persons: Persons,
     told: &mut E,
@@ -207,10 +207,43 @@ fn selection_seen<R: AllocGlobal + Clock + Copy + Drop, E: Write>(
         None
     };
     let mut seen = AnswerProgress::new(io::sink(), *rt, screen, "units audited");
-    let selection = selection_of(rt.alloc(), files, asked, &mut seen, told);
+    let selection = selection_of(rt.alloc(), disk, asked, &mut seen, told);
     seen.clear();
     drop(seen);
     selection
+}
+
+// Copies units of the library on this disk into a new library in a file. The result is the status.
+fn copied<R: AllocGlobal + Clock + Print + Copy + Drop, D: Disk + Drop, W: Write, E: Write>(
+    rt: &R,
+    files: &HostRuntime,
+    process: u32,
+    disk: D,
+    asked: &Copying,
+    persons: Persons,
+    writer: &mut W,
+    told: &mut E,
+) -> u8
+    requires least { 64 ≤ asked.now.area }
+    requires most { asked.now.area ≤ 1073741824 }
+{
+    let selection = match selection_seen(rt, files, disk, asked, persons, told) {
+        Ok(selection) => selection,
+        Err(fault) => return refuse(fault, writer, told),
+    };
+    // The memory for what is printed is allocated before the new file is made.
+    let Ok(names) = selection.units.names(rt.alloc()) else {
+        return refuse(PartFault::OutOfMemory, writer, told);
+    };
+    let written = write_new(rt.alloc(), files, process, &selection.units, asked, told);
+    if let Err(fault) = written {
+        let _ = told.flush();
+        return refuse_quietly(fault.number(), writer, told);
+    }
+    if !is_told(names.as_slice(), selection.left_out.as_slice(), writer) {
+        return unwritten(told);
+    }
+    if selection.left_out.is_empty() { 0 } else { 1 }
 }
 
 /// Copies units of the library in a file into a new library in a file. The result is the status: 0 if no unit was left out. The
@@ -227,28 +260,11 @@ pub fn copy_file<R: AllocGlobal + Clock + Print + Copy + Drop, E: Write + Drop>(
     requires most { asked.now.area ≤ 1073741824 }
 {
     let (mut writer, mut told) = buffers(rt.alloc(), io::writer(rt), errors, persons.is_quiet)?;
-    let selection = match selection_seen(rt, files, asked, persons, &mut told) {
-        Ok(selection) => selection,
-        Err(fault) => return Ok(refuse(fault, &mut writer, &mut told)),
+    let path = asked.old.as_str();
+    let disk = match disk_to_read(files, path, asked.wait) {
+        Ok(disk) => disk,
+        Err(reason) => return Ok(no_library(reason, path, &mut writer, &mut told)),
     };
-    // The memory for what is printed is allocated before the new file is made.
-    let Ok(names) = selection.units.names(rt.alloc()) else {
-        return Ok(refuse(PartFault::OutOfMemory, &mut writer, &mut told));
-    };
-    let written = write_new(
-        rt.alloc(),
-        files,
-        process,
-        &selection.units,
-        asked,
-        &mut told,
-    );
-    if let Err(fault) = written {
-        let _ = told.flush();
-        return Ok(refuse_quietly(fault.number(), &mut writer, &mut told));
-    }
-    if !is_told(names.as_slice(), selection.left_out.as_slice(), &mut writer) {
-        return Ok(unwritten(&mut told));
-    }
-    Ok(if selection.left_out.is_empty() { 0 } else { 1 })
+    let (writer, told) = (&mut writer, &mut told);
+    Ok(copied(rt, files, process, disk, asked, persons, writer, told))
 }

@@ -5,7 +5,8 @@ use crate::telling::{refuse, unwritten};
 use cc_answers::tell_audit;
 use cc_call::{StoredSize, size_on};
 use cc_command_line::Measuring;
-use cc_filing::{buffers, library_disk};
+use cc_disk::Disk;
+use cc_filing::{buffers, disk_to_read, no_library};
 use cc_findings::write_measure;
 use cc_link::Audit;
 use cc_task::Kind;
@@ -14,13 +15,12 @@ use std::alloc::{AllocError, Global};
 use std::io::{self, Write};
 
 // How much memory the image of the unit takes.
-fn size_of<E: Write>(
+fn size_of<D: Disk + Drop, E: Write>(
     alloc: Global,
-    files: &HostRuntime,
+    disk: D,
     asked: &Measuring,
     told: &mut E,
 ) -> Result<StoredSize, PartFault> {
-    let disk = library_disk(files, asked.disk.as_str())?;
     let name = asked.name.as_bytes();
     let (size, disk) = size_on(alloc, disk, name, mode_of(asked.kind), told);
     drop(disk);
@@ -79,7 +79,12 @@ pub fn size_in_file<R: AllocGlobal, A: Write + Drop, E: Write + Drop>(
     errors: E,
 ) -> Result<u8, AllocError> {
     let (mut writer, mut told) = buffers(rt.alloc(), answers, errors, is_quiet)?;
-    Ok(match size_of(rt.alloc(), files, asked, &mut told) {
+    let path = asked.disk.as_str();
+    let disk = match disk_to_read(files, path, asked.wait) {
+        Ok(disk) => disk,
+        Err(reason) => return Ok(no_library(reason, path, &mut writer, &mut told)),
+    };
+    Ok(match size_of(rt.alloc(), disk, asked, &mut told) {
         Ok(size) => answer(asked, &size, &mut writer, &mut told),
         Err(fault) => refuse(fault, &mut writer, &mut told),
     })

@@ -2,7 +2,8 @@
 
 use crate::telling::{refuse, unwritten};
 use cc_command_line::{Restoring, Wanted};
-use cc_filing::{buffers, library_disk, write_found};
+use cc_disk::Disk;
+use cc_filing::{buffers, disk_to_change, disk_to_read, no_library, write_found};
 use cc_past::{part_at, restore};
 use cc_screen::Screen;
 use cc_tasks::PartFault;
@@ -22,13 +23,12 @@ fn explain_absent<T, E: Write>(found: &Result<T, PartFault>, told: &mut E) {
 }
 
 // The bytes of the part that is wanted.
-fn bytes_of(
+fn bytes_of<D: Disk + Drop>(
     alloc: Global,
-    files: &HostRuntime,
+    disk: D,
     wanted: &Wanted,
     number: u64,
 ) -> Result<Vec<u8>, PartFault> {
-    let disk = library_disk(files, wanted.disk.as_str())?;
     let name = wanted.name.as_bytes();
     let (found, disk) = part_at(alloc, disk, name, wanted.part, number as usize);
     drop(disk);
@@ -48,15 +48,19 @@ pub fn take_out_of_past<R: AllocGlobal + Print, E: Write + Drop>(
 ) -> Result<u8, AllocError> {
     let (buffered, mut told) = buffers(rt.alloc(), io::writer(rt), errors, is_quiet)?;
     let mut writer = Screen::new(buffered, files.stdout().is_terminal());
-    let found = bytes_of(rt.alloc(), files, wanted, number);
+    let path = wanted.disk.as_str();
+    let disk = match disk_to_read(files, path, wanted.wait) {
+        Ok(disk) => disk,
+        Err(reason) => return Ok(no_library(reason, path, &mut writer, &mut told)),
+    };
+    let found = bytes_of(rt.alloc(), disk, wanted, number);
     explain_absent(&found, &mut told);
     let done = write_found(found, &mut writer, &mut told);
     Ok(done.status)
 }
 
 // Puts back what a command stored.
-fn restored(alloc: Global, files: &HostRuntime, asked: &Restoring) -> Result<(), PartFault> {
-    let disk = library_disk(files, asked.disk.as_str())?;
+fn restored<D: Disk + Drop>(alloc: Global, disk: D, asked: &Restoring) -> Result<(), PartFault> {
     let (answer, disk) = restore(alloc, disk, asked.name.as_bytes(), asked.number as usize);
     drop(disk);
     answer
@@ -72,7 +76,12 @@ pub fn restore_in_file<R: AllocGlobal + Print, E: Write + Drop>(
     errors: E,
 ) -> Result<u8, AllocError> {
     let (mut writer, mut told) = buffers(rt.alloc(), io::writer(rt), errors, is_quiet)?;
-    let answer = restored(rt.alloc(), files, asked);
+    let path = asked.disk.as_str();
+    let disk = match disk_to_change(files, path, asked.wait) {
+        Ok(disk) => disk,
+        Err(reason) => return Ok(no_library(reason, path, &mut writer, &mut told)),
+    };
+    let answer = restored(rt.alloc(), disk, asked);
     explain_absent(&answer, &mut told);
     Ok(match answer {
         Ok(()) => {

@@ -1,8 +1,10 @@
 // Reads the commands that a disk's records spell.
 
 ghost use Rattle.std.specs.Prelude.{◌≡◌, IsTrue, IfOk, IfErr, OnOk};
+ghost use Rattle.std.specs.FinMap.{empty};
 ghost use Rattle.cc_disk.specs.Images.{OnlyReads};
 ghost use Rattle.cc_library.specs.Answers.{OpenFaults, ReplayFaults};
+ghost use Rattle.cc_library.specs.Apply.{AreAccepted};
 ghost use Rattle.cc_library.specs.Recovered.{AreSpelled};
 ghost use Rattle.cc_log.specs.Commands.{HasCommands, AreRead};
 ghost use Rattle.cc_log.specs.internal.Reading.{IsUnread};
@@ -48,7 +50,9 @@ pub fn commands_on<D: Disk + Drop>(
     alloc: Global,
     disk: D,
 ) -> (Result<Vec<LibraryCommand>, LibraryFault>, D)
-    // On an honest disk, the commands are those whose records the disk has.
+    // Each command is accepted by the map that those before it made, whatever kind of disk it is. On an honest disk, the commands are those
+    // whose records the disk has.
+    ensures accepted { IfOk result.0 (λ commands. AreAccepted empty commands.items) }
     ensures commands { IfOk result.0 (λ commands. IsTrue D.honest → HasCommands (D.seen disk) commands.items) }
     ensures refused { IfErr result.0 (λ fault. OpenFaults D.honest (D.seen disk) (D.failures disk) (D.failures result.1) fault) }
     ensures sound { OnOk result.0 (D.failures result.1 ≡ D.failures disk) }

@@ -3,6 +3,9 @@
 /// The largest number of steps or instructions that a task may have.
 pub const MOST_STEPS: u64 = 1_000_000_000;
 
+/// The largest number of words that a task may bound what a run writes by.
+pub const MOST_WORDS: u64 = 4_294_967_295;
+
 /// How an image is compiled.
 #[derive(Clone, Copy, Debug, Drop, PartialEq, Eq)]
 pub enum Kind {
@@ -29,6 +32,11 @@ pub enum Task {
     InterpretObserved(u64, Vec<u32>),
     /// As `Run`, and say what the image reads too.
     RunObserved(Kind, u64, Vec<u32>),
+    /// As `Interpret`, and end before the program writes more than so many words: after the steps comes that number, 0 to
+    /// 4,294,967,295.
+    InterpretWithin(u64, u64, Vec<u32>),
+    /// As `Run`, and end before the image writes more than so many words: after the steps comes that number, 0 to 4,294,967,295.
+    RunWithin(Kind, u64, u64, Vec<u32>),
     /// Compile the program and list its image.
     Asm(Kind),
     /// Compile the program and write its image as Intel HEX.

@@ -1,14 +1,14 @@
 -- What the program answers for a text.
-use Rattle.std.specs.Prelude.{ℕ, ◌≡◌, true, List, []}
+use Rattle.std.specs.Prelude.{ℕ, ◌≡◌, true, false, List, [], Some}
 use Rattle.cc_ast.specs.Tree.{Source}
 use Rattle.cc_c_semantics.specs.Meaning.{source_behavior, observed_behavior}
 use Rattle.cc_c_semantics.specs.declared.mode.Mode.{Mode}
 use Rattle.cc_c_semantics.specs.declared.mode.Mode.TheVariants as mode
 use Rattle.cc_meaning.specs.Erase.{outcome_tree, stop_tree}
+use Rattle.cc_meaning.specs.Within.{within_words}
 use Rattle.cc_rv32.specs.declared.image.Image.{Image}
 use Rattle.cc_rv32.specs.Listing.{listing}
 use Rattle.cc_rv32.specs.Machine.{observed_machine}
-use Rattle.cc_answers.specs.Run.{IsRunOf}
 use Rattle.cc_hex.specs.Contents.{Holds, Says}
 use Rattle.cc_hex.specs.Layout.{image_text}
 use Rattle.cc_link.specs.Agree.{Agree, AgreeIn}
@@ -17,15 +17,16 @@ use Rattle.cc_link.specs.Text.{IsProgramText, IsTextRefusal}
 use Rattle.cc_link.specs.declared.build_fault.BuildFault.TheVariants as build
 use Rattle.cc_findings.specs.Measured.{Measures}
 use Rattle.cc_runs.specs.Count.{IsCounted}
+use Rattle.cc_runs.specs.Within.{IsCountedWithin}
 use Rattle.cc_safe.specs.Safe.{IsSafe}
 use Rattle.cc_steps.specs.Count.{IsStepCount}
 use Rattle.cc_steps.specs.Observed.{IsExchanged}
 use Rattle.cc_task.specs.declared.task.Kind.{Kind}
 use Rattle.cc_task.specs.declared.task.Kind.TheVariants.{Plain, Checked}
 use Rattle.cc_task.specs.declared.task.Task.{Task}
-use Rattle.cc_task.specs.declared.task.Task.TheVariants.{Check, Interpret, Run, InterpretCounted, RunCounted, InterpretObserved, RunObserved, Asm, Image as ImageTask, Size, SizedImage as SizedImageTask, Safe}
+use Rattle.cc_task.specs.declared.task.Task.TheVariants.{Check, Interpret, Run, InterpretCounted, RunCounted, InterpretObserved, RunObserved, InterpretWithin, RunWithin, Asm, Image as ImageTask, Size, SizedImage as SizedImageTask, Safe}
 use Rattle.cc_tasks.specs.declared.answer.Answer.{Answer}
-use Rattle.cc_tasks.specs.declared.answer.Answer.TheVariants.{Accepted, Ran, Executed, RanCounted, ExecutedCounted, RanObserved, ExecutedObserved, Listed, Image as InHex, Sized as Measured, SizedImage, Judged}
+use Rattle.cc_tasks.specs.declared.answer.Answer.TheVariants.{Accepted, Ran, Executed, RanCounted, RanObserved, ExecutedObserved, Listed, Image as InHex, Sized as Measured, SizedImage, Judged}
 use Rattle.cc_tasks.specs.declared.fault.Fault.{Fault}
 use Rattle.cc_tasks.specs.declared.fault.Fault.TheVariants.{Text, Meaning, Piece, Link, UnknownFunction, OutOfMemory, Read, Write}
 
@@ -50,9 +51,9 @@ abbrev pub mode_of : Kind → Mode
 mode_of Plain = mode.Plain
 mode_of Checked = mode.Checked
 
--- what `run` answers: what is done by an image that agrees with the text and follows what its program shows in the mode
+-- what `run` answers: what is done by an image that agrees with the text and follows what its program shows in the mode, without a count
 abbrev pub IsExecuted : Mode → (steps : ℕ) → (words text : List ℕ) → Answer → Type 0
-IsExecuted m steps words text (Executed done) = (image : Image) × Agree text image × AgreeIn m text image × IsRunOf image steps words done
+IsExecuted m steps words text (Executed done) = (image : Image) × Agree text image × AgreeIn m text image × IsCounted image false steps words done
 IsExecuted m steps words text answer = ⊥
 
 -- what `interpret --count` answers: what the program does within the steps, and the least number of steps with that end
@@ -63,7 +64,7 @@ IsRanCounted steps words text answer = ⊥
 
 -- what `run --count` answers: what an image of the text in the mode does, and the least number of instructions with that end
 abbrev pub IsExecutedCounted : Mode → (steps : ℕ) → (words text : List ℕ) → Answer → Type 0
-IsExecutedCounted m steps words text (ExecutedCounted done) = (image : Image) × Agree text image × AgreeIn m text image × IsCounted image true steps words done
+IsExecutedCounted m steps words text (Executed done) = (image : Image) × Agree text image × AgreeIn m text image × IsCounted image true steps words done
 IsExecutedCounted m steps words text answer = ⊥
 
 -- what `interpret --reads` answers: the words that the program reads and writes, in their order, and how it ends
@@ -79,6 +80,17 @@ IsExecutedObserved m steps words text (ExecutedObserved done) =
     (image : Image) × Agree text image × AgreeIn m text image × (done.outcome ≡ (observed_machine image words steps).outcome)
     × IsExchanged (observed_machine image words steps).output words done.exchanges.items
 IsExecutedObserved m steps words text answer = ⊥
+
+-- what `interpret --words` answers: what the program does within the steps, up to the first word that would be one too many
+abbrev pub IsRanWithin : (steps most : ℕ) → (words text : List ℕ) → Answer → Type 0
+IsRanWithin steps most words text (Ran o) = (p : ProgramOf text) × (outcome_tree o ≡ within_words most (source_behavior p.program words steps))
+IsRanWithin steps most words text answer = ⊥
+
+-- what `run --words` answers: what an image of the text in the mode does within as many instructions as write no more words than that
+abbrev pub IsExecutedWithin : Mode → (steps most : ℕ) → (words text : List ℕ) → Answer → Type 0
+IsExecutedWithin m steps most words text (Executed done) =
+    (image : Image) × Agree text image × AgreeIn m text image × IsCountedWithin image false steps (Some most) words done
+IsExecutedWithin m steps most words text answer = ⊥
 
 -- what `asm` answers: the listing of an image of the text in the mode
 abbrev pub IsListed : Mode → (text : List ℕ) → Answer → Type 0
@@ -122,6 +134,8 @@ Answers (InterpretCounted steps words) text answer = IsRanCounted steps words.it
 Answers (RunCounted kind steps words) text answer = IsExecutedCounted (mode_of kind) steps words.items text answer
 Answers (InterpretObserved steps words) text answer = IsRanObserved steps words.items text answer
 Answers (RunObserved kind steps words) text answer = IsExecutedObserved (mode_of kind) steps words.items text answer
+Answers (InterpretWithin steps most words) text answer = IsRanWithin steps most words.items text answer
+Answers (RunWithin kind steps most words) text answer = IsExecutedWithin (mode_of kind) steps most words.items text answer
 Answers (Asm kind) text answer = IsListed (mode_of kind) text answer
 Answers (ImageTask kind) text answer = IsImage (mode_of kind) text answer
 Answers (Size kind) text answer = IsMeasured (mode_of kind) text answer
@@ -159,6 +173,8 @@ IsRefused (InterpretCounted steps words) text fault = HasNoProgram text fault
 IsRefused (RunCounted kind steps words) text fault = HasNoImage (mode_of kind) text fault
 IsRefused (InterpretObserved steps words) text fault = HasNoProgram text fault
 IsRefused (RunObserved kind steps words) text fault = HasNoImage (mode_of kind) text fault
+IsRefused (InterpretWithin steps most words) text fault = HasNoProgram text fault
+IsRefused (RunWithin kind steps most words) text fault = HasNoImage (mode_of kind) text fault
 IsRefused (Asm kind) text fault = HasNoImage (mode_of kind) text fault
 IsRefused (ImageTask kind) text fault = HasNoImage (mode_of kind) text fault
 IsRefused (Size kind) text fault = HasNoImage (mode_of kind) text fault

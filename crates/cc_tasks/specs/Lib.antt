@@ -4,6 +4,8 @@ pub mod Answer
 pub mod Fault
 -- What is written for a text, byte for byte.
 pub mod Written
+-- What becomes of a text whose run goes on while its input comes.
+pub mod Live
 -- What is taken out of a library, and why nothing is.
 pub mod Part
 -- What only private contracts use.

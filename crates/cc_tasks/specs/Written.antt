@@ -9,7 +9,7 @@ use Rattle.cc_meaning.specs.declared.outcome.Outcome.{Outcome}
 use Rattle.cc_rv32.specs.Listing.{signed_text}
 use Rattle.cc_link.specs.Text.{text_fault_place}
 use Rattle.cc_sources.specs.Reading.{IsTextOf}
-use Rattle.cc_answers.specs.Text.{line, words_text, run_text, machine_outcome_text, fault_line, place_text, function_text}
+use Rattle.cc_answers.specs.Text.{line, words_text, machine_outcome_text, fault_line, place_text, function_text}
 use Rattle.cc_findings.specs.Written.{cause_name, judged_text, measure_text}
 use Rattle.cc_findings.specs.declared.judging.Unsure.{Unsure}
 use Rattle.cc_runs.specs.Written.{counted_text}
@@ -22,7 +22,7 @@ use Rattle.cc_tasks.specs.Answer.{Answers, IsRefused}
 use Rattle.cc_tasks.specs.Fault.{fault_number}
 use Rattle.cc_tasks.specs.Part.{part_fault_number}
 use Rattle.cc_tasks.specs.declared.answer.Answer.{Answer}
-use Rattle.cc_tasks.specs.declared.answer.Answer.TheVariants.{Accepted, Ran, Executed, RanCounted, ExecutedCounted, RanObserved, ExecutedObserved, Listed, Image, Sized, SizedImage, Judged}
+use Rattle.cc_tasks.specs.declared.answer.Answer.TheVariants.{Accepted, Ran, Executed, RanCounted, RanObserved, ExecutedObserved, Listed, Image, Sized, SizedImage, Judged}
 use Rattle.cc_tasks.specs.declared.fault.Fault.{Fault}
 use Rattle.cc_tasks.specs.declared.part.PartFault.{PartFault}
 use Rattle.cc_tasks.specs.declared.fault.Fault.TheVariants.{Text, Meaning, Piece, Link, UnknownFunction, OutOfMemory, Read, Write}
@@ -57,9 +57,8 @@ observed_run_text done = exchanges_text done.exchanges.items ++ machine_outcome_
 abbrev pub answer_text : Answer → List ℕ
 answer_text Accepted = line (codes "ok")
 answer_text (Ran outcome) = outcome_text outcome
-answer_text (Executed run) = run_text run
+answer_text (Executed run) = counted_text run
 answer_text (RanCounted done) = counted_outcome_text done
-answer_text (ExecutedCounted run) = counted_text run
 answer_text (RanObserved done) = observed_outcome_text done
 answer_text (ExecutedObserved done) = observed_run_text done
 answer_text (Listed lines) = lines.items

@@ -10,14 +10,15 @@ ghost use Rattle.cc_tasks.specs.Answer.{IsAccepted, IsRan, IsExecuted, IsListed,
 use super::counting::{executed_counted, ran_counted};
 use super::fault::Fault;
 use super::observing::{executed_observed, ran_observed};
-use cc_answers::{ImageRun, run_image};
+use super::within::{executed_within, ran_within};
 use cc_findings::{Measure, Unsure, judge, measured};
 use cc_hex::image::write;
 use cc_link::{BuildFault, CompiledUnit, Mode, compile_in, typed_unit};
 use cc_meaning::{Outcome, interpret};
+use cc_runs::{CountedRun, run_words};
 use cc_rv32::listing::list;
 use cc_size::size_in;
-use cc_steps::{CountedOutcome, CountedRun, ObservedOutcome, ObservedRun};
+use cc_steps::{CountedOutcome, ObservedOutcome, ObservedRun};
 use cc_task::{Kind, Task};
 use std::alloc::Global;
 
@@ -28,12 +29,11 @@ pub enum Answer {
     Accepted,
     /// What the program does.
     Ran(Outcome),
-    /// What the program's image has written, and how its run ended.
-    Executed(ImageRun),
+    /// What the program's image has written, how its run ended, whether it has stopped in place, and in how many instructions, if these were
+    /// counted.
+    Executed(CountedRun),
     /// What the program does, and in how many steps.
     RanCounted(CountedOutcome),
-    /// What the program's image has written, how its run ended, and in how many instructions.
-    ExecutedCounted(CountedRun),
     /// What the program reads and writes, and how it ends.
     RanObserved(ObservedOutcome),
     /// What the program's image has read and written, and how its run ended.
@@ -124,7 +124,7 @@ fn executed(
         Ok(unit) => unit,
         Err(fault) => return Err(fault),
     };
-    match run_image(alloc, &unit.stored().image, words, steps) {
+    match run_words(alloc, &unit.stored().image, words, steps, false) {
         Ok(run) => Ok(Answer::Executed(run)),
         Err(_) => Err(Fault::OutOfMemory),
     }
@@ -239,6 +239,12 @@ pub fn answer_for(alloc: Global, task: &Task, text: &[u8]) -> Result<Answer, Fau
         }
         Task::RunObserved(kind, steps, words) => {
             executed_observed(alloc, mode_of(*kind), text, words.as_slice(), *steps)
+        }
+        Task::InterpretWithin(steps, most, words) => {
+            ran_within(alloc, text, words.as_slice(), *steps, *most)
+        }
+        Task::RunWithin(kind, steps, most, words) => {
+            executed_within(alloc, mode_of(*kind), text, words.as_slice(), *steps, *most)
         }
         Task::Asm(kind) => listed(alloc, mode_of(*kind), text),
         Task::Image(kind) => in_hex(alloc, mode_of(*kind), text),

@@ -46,7 +46,7 @@ pub(crate) fn executed_counted(
         Err(fault) => return Err(fault),
     };
     match run_counted(alloc, &unit.stored().image, words, steps) {
-        Ok(run) => Ok(Answer::ExecutedCounted(run)),
+        Ok(run) => Ok(Answer::Executed(run)),
         Err(_) => Err(Fault::OutOfMemory),
     }
 }

@@ -6,6 +6,7 @@ use cc_diagnostic::{Diagnostic, further_of_typing, warnings};
 use cc_link::{TextFault, typed_unit};
 use cc_meaning::{Cause, Stop, interpret};
 use cc_run_diagnostic::{WrongRun, of_wrong_run};
+use cc_runs::explain_final;
 use cc_sources::{Origin, write_diagnostic};
 use cc_task::{Kind, Task};
 use std::alloc::{AllocError, Global};
@@ -18,8 +19,9 @@ pub(crate) enum Matter {
     Text,
     /// Why the program went wrong.
     Wrong(Cause),
-    /// Whether an image whose run goes on, and has written this many words, has stopped in place.
-    Going(usize),
+    /// Whether an image whose run goes on, and has written this many words, stops in place since its program goes wrong; and whether its run
+    /// has stopped in place.
+    Going(usize, bool),
     /// Nothing; the program may go wrong.
     Unsure,
 }
@@ -36,6 +38,8 @@ pub enum Halt {
 /// The explanation of the answer to a text.
 #[derive(Drop)]
 pub struct Explanation {
+    /// Whether the run of an image has stopped in place: nothing more comes.
+    pub is_final: bool,
     /// Words that belong to no place in the text.
     pub words: Option<&'static str>,
     /// The explanation of the fault, or of what went wrong in a run.
@@ -54,6 +58,7 @@ impl Explanation {
     // An explanation that consists only of these words.
     fn words(alloc: Global, words: Option<&'static str>) -> Explanation {
         Explanation {
+            is_final: false,
             words,
             first: None,
             halt: None,
@@ -123,7 +128,8 @@ pub fn explanation_of_wrong(alloc: Global, task: &Task, text: &[u8], cause: Caus
     match task {
         Task::Interpret(steps, words)
         | Task::InterpretCounted(steps, words)
-        | Task::InterpretObserved(steps, words) => {
+        | Task::InterpretObserved(steps, words)
+        | Task::InterpretWithin(steps, _, words) => {
             let told = of_wrong_run(alloc, text, words.as_slice(), *steps, cause);
             Explanation::wrong(alloc, told)
         }
@@ -131,6 +137,7 @@ pub fn explanation_of_wrong(alloc: Global, task: &Task, text: &[u8], cause: Caus
         | Task::Run(_, _, _)
         | Task::RunCounted(_, _, _)
         | Task::RunObserved(_, _, _)
+        | Task::RunWithin(_, _, _, _)
         | Task::Asm(_)
         | Task::Image(_)
         | Task::Size(_)
@@ -172,15 +179,32 @@ fn stopping_of(
     Some(Stopping { cause, halt })
 }
 
+// The steps and the words of a task whose run ends as `going`, if the image is checked, and it was not stopped because of the words that it
+// wrote.
+fn checked_run(task: &Task, is_final: bool) -> Option<(u64, &[u32])> {
+    match task {
+        Task::Run(Kind::Checked, steps, words)
+        | Task::RunCounted(Kind::Checked, steps, words)
+        | Task::RunObserved(Kind::Checked, steps, words) => Some((*steps, words.as_slice())),
+        Task::RunWithin(Kind::Checked, steps, _, words) if is_final => {
+            Some((*steps, words.as_slice()))
+        }
+        _ => None,
+    }
+}
+
 // The explanation for an image's run that ends as `going` and has written `written` words. If the image is checked, and the
 // program goes wrong within the same number of steps (at most 100,000,000), it is the place at which the image stops, and
 // whether it has stopped; otherwise it is the warnings of the text. The program is interpreted to find that out.
-fn explanation_of_going(alloc: Global, task: &Task, text: &[u8], written: usize) -> Explanation {
-    let (steps, words) = match task {
-        Task::Run(Kind::Checked, steps, words)
-        | Task::RunCounted(Kind::Checked, steps, words)
-        | Task::RunObserved(Kind::Checked, steps, words) => (*steps, words.as_slice()),
-        _ => return explanation_of_program(alloc, text),
+fn explanation_of_halt(
+    alloc: Global,
+    task: &Task,
+    text: &[u8],
+    written: usize,
+    is_final: bool,
+) -> Explanation {
+    let Some((steps, words)) = checked_run(task, is_final) else {
+        return explanation_of_program(alloc, text);
     };
     let Some(Stopping { cause, halt }) = stopping_of(alloc, text, words, steps, written) else {
         return explanation_of_program(alloc, text);
@@ -190,6 +214,19 @@ fn explanation_of_going(alloc: Global, task: &Task, text: &[u8], written: usize)
     if explanation.first.is_some() {
         explanation.halt = Some(halt);
     }
+    explanation
+}
+
+// The same, and whether the run has stopped in place.
+fn explanation_of_going(
+    alloc: Global,
+    task: &Task,
+    text: &[u8],
+    written: usize,
+    is_final: bool,
+) -> Explanation {
+    let mut explanation = explanation_of_halt(alloc, task, text, written, is_final);
+    explanation.is_final = is_final;
     explanation
 }
 
@@ -203,7 +240,9 @@ pub(crate) fn explanation_of_matter(
     match matter {
         Matter::Text | Matter::Unsure => explanation_of_program(alloc, text),
         Matter::Wrong(cause) => explanation_of_wrong(alloc, task, text, cause),
-        Matter::Going(written) => explanation_of_going(alloc, task, text, written),
+        Matter::Going(written, is_final) => {
+            explanation_of_going(alloc, task, text, written, is_final)
+        }
     }
 }
 
@@ -247,6 +286,9 @@ pub fn write_explanation<W: Write>(
     explanation: &Explanation,
     writer: &mut W,
 ) -> io::Result<()> {
+    if explanation.is_final {
+        explain_final(writer)?;
+    }
     if let Some(words) = explanation.words {
         writeln!(writer, "cclib: {words}")?;
     }

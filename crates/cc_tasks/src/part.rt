@@ -4,6 +4,7 @@ ghost use Rattle.std.specs.Prelude.{◌≡◌, IfOk, IfErr, IsTrue, OnOk};
 ghost use Rattle.std.specs.Io.KnownBytes.{Appends};
 ghost use Rattle.std.specs.FinMap as map;
 ghost use Rattle.cc_disk.specs.Images.{OnlyReads};
+ghost use Rattle.cc_library.specs.Apply.{Units};
 ghost use Rattle.cc_tasks.specs.Part.{IsPart, IsPartIn, IsNoPartIn, IsPartOn, IsNoPartOn, part_fault_number};
 ghost use Rattle.cc_tasks.specs.Written.{Writes, found_text};
 
@@ -122,7 +123,9 @@ pub fn take_out<D: Disk + Drop, E: Write>(
     part: Part,
     explanations: &mut E,
 ) -> (Result<Vec<u8>, PartFault>, D)
-    // On an honest disk, the result is the part of the unit that has the name in the map to which the disk recovers.
+    // The result is the part of the unit that has the name in some map, whatever kind of disk it is. On an honest disk this is the map to
+    // which the disk recovers.
+    ensures some { IfOk result.0 (λ bytes. (units : Units) × IsPartIn units name.now part bytes.items) }
     ensures part { IfOk result.0 (λ bytes. IsTrue D.honest → IsPartOn (D.seen disk) name.now part bytes.items) }
     // When each refusal comes.
     ensures refused { IfErr result.0 (λ fault. IsNoPartOn D.honest (D.seen disk) (D.failures disk) (D.failures result.1) name.now fault) }

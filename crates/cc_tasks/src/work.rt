@@ -15,7 +15,7 @@ use super::explain::{
 };
 use super::fault::Fault;
 use super::source::read_source;
-use cc_answers::{Telling, write_outcome as write_end, write_run, write_words};
+use cc_answers::{Telling, write_outcome as write_end, write_words};
 use cc_findings::{Measure, cause_name, write_judged, write_measure};
 use cc_meaning::{Outcome, Stop};
 use cc_rv32::outcome::MachineOutcome;
@@ -93,9 +93,8 @@ pub fn write_answer<W: Write>(answer: &Answer, writer: &mut W) -> io::Result<()>
     match answer {
         Answer::Accepted => writeln!(writer, "ok"),
         Answer::Ran(outcome) => write_outcome(outcome, writer),
-        Answer::Executed(run) => write_run(run, writer),
+        Answer::Executed(run) => write_counted_run(run, writer),
         Answer::RanCounted(done) => write_counted_outcome(done, writer),
-        Answer::ExecutedCounted(run) => write_counted_run(run, writer),
         Answer::RanObserved(done) => write_observed_outcome(done, writer),
         Answer::ExecutedObserved(done) => write_observed_run(done, writer),
         Answer::Listed(lines) => writer.write_all(lines.as_slice()),
@@ -137,12 +136,12 @@ fn written(exchanges: &[Exchange]) -> usize {
         .count()
 }
 
-// What is to be explained after a run of an image that has written so many words.
-fn matter_of_run(outcome: MachineOutcome, written: usize) -> Matter
+// What is to be explained after a run of an image that has written so many words, and may have stopped in place.
+fn matter_of_run(outcome: MachineOutcome, written: usize, is_final: bool) -> Matter
     ensures { matter_status result ≡ 0 }
 {
     match outcome {
-        MachineOutcome::Going => Matter::Going(written),
+        MachineOutcome::Going => Matter::Going(written, is_final),
         MachineOutcome::Exited(_) | MachineOutcome::Trapped => Matter::Text,
     }
 }
@@ -155,10 +154,11 @@ fn matter_of(answer: &Answer) -> Matter
         Answer::Ran(outcome) => matter_of_stop(outcome.stop),
         Answer::RanCounted(done) => matter_of_stop(done.outcome.stop),
         Answer::RanObserved(done) => matter_of_stop(done.stop),
-        Answer::Executed(run) => matter_of_run(run.outcome, run.output.len()),
-        Answer::ExecutedCounted(done) => matter_of_run(done.run.outcome, done.run.output.len()),
+        Answer::Executed(done) => {
+            matter_of_run(done.run.outcome, done.run.output.len(), done.is_final)
+        }
         Answer::ExecutedObserved(done) => {
-            matter_of_run(done.outcome, written(done.exchanges.as_slice()))
+            matter_of_run(done.outcome, written(done.exchanges.as_slice()), false)
         }
         Answer::Judged(lines) if !lines.is_empty() => Matter::Unsure,
         Answer::Accepted
@@ -288,7 +288,7 @@ fn status_of_matter(matter: Matter) -> u8
     ensures bound { result ≤ 1 }
 {
     match matter {
-        Matter::Text | Matter::Wrong(_) | Matter::Going(_) => 0,
+        Matter::Text | Matter::Wrong(_) | Matter::Going(_, _) => 0,
         Matter::Unsure => 1,
     }
 }
@@ -321,8 +321,8 @@ pub struct Done {
     pub is_written: bool,
 }
 
-// Whether a fault is reported by its line.
-fn is_told(fault: &Fault) -> bool
+/// Whether a fault is reported by its line.
+pub(crate) fn is_told(fault: &Fault) -> bool
     ensures { result ≡ is_told fault.now }
 {
     match fault {
@@ -386,7 +386,8 @@ pub fn perform<H: AllocGlobal, R: Read, W: Write>(
 
 /// Does a task as `carry_out` does, and writes to `explanations` what helps a person with a fault or with a run that went wrong:
 /// the place, as editors read it, what was found there and what was expected, and the line of the text. It does the same for a
-/// checked image that has stopped in place, or will at a larger bound; for another program it writes the warnings. If a write to `writer` fails,
+/// checked image that has stopped in place, or will at a larger bound; for another program it writes the warnings. If the run of an image
+/// has stopped in place, that comes first. If a write to `writer` fails,
 /// `explanations` says so. If memory for an explanation runs out, or the explanation cannot be written, it is left out; the
 /// status is the same.
 pub fn perform_and_explain<H: AllocGlobal, R: Read, W: Write, E: Write>(

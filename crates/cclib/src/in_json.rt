@@ -49,7 +49,7 @@ fn start<R: AllocGlobal + Input + Print>(
 // The first of the files that the work compares; an empty name if it compares none.
 fn left_of(asked: &Keeping) -> &str {
     match asked {
-        Keeping::Diff(left, _) => left.as_str(),
+        Keeping::Diff(asked) => asked.left.as_str(),
         _ => "",
     }
 }
@@ -57,7 +57,7 @@ fn left_of(asked: &Keeping) -> &str {
 // The second of the files that the work compares; an empty name if it compares none.
 fn right_of(asked: &Keeping) -> &str {
     match asked {
-        Keeping::Diff(_, right) => right.as_str(),
+        Keeping::Diff(asked) => asked.right.as_str(),
         _ => "",
     }
 }
@@ -114,7 +114,7 @@ fn answers_by_line(asked: &Keeping) -> bool {
 // The kind of the answers to work.
 fn kind_of(work: &Work) -> LineKind {
     match work {
-        Work::Library(_) => LineKind::Script(Dialect::Plain),
+        Work::Library(_) | Work::Short(_) => LineKind::Script(Dialect::Plain),
         Work::Submit(_) => LineKind::Script(Dialect::Served),
         _ => LineKind::Answers,
     }

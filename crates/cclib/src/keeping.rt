@@ -49,17 +49,8 @@ pub fn look_into<
     match asked {
         Keeping::Size(asked) => size_in_file(rt, files, asked, is_quiet, answers, errors),
         Keeping::Call(asked) => call_in_file(rt, files, asked, persons, answers, errors),
-        Keeping::Diff(left, right) => {
-            let (left, right) = (left.as_str(), right.as_str());
-            diff_files(rt, files, left, right, is_quiet, answers, errors)
-        }
-        Keeping::Log(disk, name) => {
-            let name = match name {
-                Some(name) => Some(name.as_str()),
-                None => None,
-            };
-            log_of_file(rt, files, disk.as_str(), name, is_quiet, answers, errors)
-        }
+        Keeping::Diff(asked) => diff_files(rt, files, asked, is_quiet, answers, errors),
+        Keeping::Log(asked) => log_of_file(rt, files, asked, is_quiet, answers, errors),
         Keeping::Restore(asked) => {
             drop(answers);
             restore_in_file(rt, files, asked, is_quiet, errors)

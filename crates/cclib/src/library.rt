@@ -10,6 +10,7 @@ use cc_command_line::Session;
 use cc_disk::Disk;
 use cc_filing::{buffers, disk_of_session, no_disk, tell_wide_disk};
 use cc_session::{Gate, SessionEnd, session_and_explain};
+use cc_task::Kind;
 use cc_tasks::mode_of;
 use cc_watch::{AnswerProgress, FaultWatch};
 use std::alloc::AllocError;
@@ -20,9 +21,9 @@ use std::thread::Threads;
 
 // Shows a person how far a long `add` has got: the workers pass this gate before each function.
 #[derive(Drop)]
-struct Progress<R> {
-    rt: R,
-    is_shown: bool,
+pub(crate) struct Progress<R> {
+    pub(crate) rt: R,
+    pub(crate) is_shown: bool,
 }
 
 /// How many functions are compiled between two notes to the person.
@@ -49,18 +50,29 @@ fn status(end: SessionEnd, is_refused: bool) -> u8
     }
 }
 
-// How a session went.
-#[derive(Drop)]
-struct Ran<D: Drop> {
-    disk: Option<D>,
-    end: SessionEnd,
-    status: u8,
+/// How a session is played.
+#[derive(Clone, Copy, Drop)]
+pub(crate) struct How {
+    /// How images are compiled.
+    pub(crate) kind: Kind,
+    /// How many threads compile: 1 to 8.
+    pub(crate) workers: usize,
+    /// Whether a fault among the answers makes the status 1.
+    pub(crate) is_strict: bool,
 }
 
-// Runs a script over a library's disk, as the session that was asked for: in its mode, with its workers, and with its status.
-fn run_session<H, R: Read, W, C, S, E: Write, D: Disk + Drop, G>(
+/// How a session went.
+#[derive(Drop)]
+pub(crate) struct Ran<D: Drop> {
+    pub(crate) disk: Option<D>,
+    pub(crate) end: SessionEnd,
+    pub(crate) status: u8,
+}
+
+/// Runs a script over a library's disk, as the session that was asked for: in its mode, with its workers, and with its status.
+pub(crate) fn run_session<H, R: Read, W, C, S, E: Write, D: Disk + Drop, G>(
     rt: &H,
-    asked: &Session,
+    how: How,
     reader: &mut R,
     writer: &mut AnswerProgress<FaultWatch<W>, C, S>,
     told: &mut E,
@@ -73,31 +85,31 @@ where
     C: Clock + Drop,
     S: Write + Drop,
     G: Gate + Drop + Send + Sync + 'static,
-    requires some { 1 ≤ asked.now.workers }
-    requires few { asked.now.workers ≤ 8 }
-    ensures answers { SessionEnds (mode_of asked.now.kind) D.Disk (R.remaining reader.old) (W.contents writer.old.writer.writer) (W.contents writer.new.writer.writer) disk result.disk result.end }
-    ensures well { result.end ≡ Finished → asked.now.is_strict ≡ false → result.status ≡ 0 }
+    requires some { 1 ≤ how.workers }
+    requires few { how.workers ≤ 8 }
+    ensures answers { SessionEnds (mode_of how.kind) D.Disk (R.remaining reader.old) (W.contents writer.old.writer.writer) (W.contents writer.new.writer.writer) disk result.disk result.end }
+    ensures well { result.end ≡ Finished → how.is_strict ≡ false → result.status ≡ 0 }
     ensures fault { result.end ≢ Finished → result.status ≡ 1 }
     ensures bound { result.status ≤ 1 }
 {
     let (disk, end) = session_and_explain(
         rt,
         rt.alloc(),
-        mode_of(asked.kind),
+        mode_of(how.kind),
         reader,
         writer,
         told,
         disk,
-        asked.workers,
+        how.workers,
         gate,
     );
-    let is_refused = asked.is_strict && writer.writer().has_fault();
+    let is_refused = how.is_strict && writer.writer().has_fault();
     let status = status(end, is_refused);
     Ran { disk, end, status }
 }
 
-// Whether nobody sees the answers as they come.
-fn is_out_of_sight(files: &HostRuntime) -> bool {
+/// Whether nobody sees the answers as they come.
+pub(crate) fn is_out_of_sight(files: &HostRuntime) -> bool {
     !files.stdout().is_terminal()
 }
 
@@ -135,9 +147,14 @@ where
         let _ = greet(&mut told);
     }
     let progress = Progress { rt: *rt, is_shown };
+    let how = How {
+        kind: asked.kind,
+        workers: asked.workers,
+        is_strict: asked.is_strict,
+    };
     let Ran { disk, status, .. } = run_session(
         rt,
-        asked,
+        how,
         &mut reader,
         &mut writer,
         &mut told,

@@ -1,17 +1,22 @@
 //! The program `cclib`: reads a C program from standard input or from files, and checks, interprets, runs or lists it, or runs a
 //! script over a library. `cc_command_line` reads the command line, `cc_tasks` performs a task, `cc_session` runs a script.
 //! `cc_filing` opens the file of a library and takes a unit out of it, `cc_keeping` looks into libraries, `cc_submit` is a
-//! server's client, `cc_json` prints JSON, `cc_cover` watches a run. `keeping` looks into libraries, `library` has a session over
-//! a file, `serving` a server, `stack` reserves the stack, `texts` has programs that come in files, `in_json` work in JSON,
-//! `watching` runs that are watched, `version` the names of the program's sources.
+//! server's client, `cc_json` prints JSON, `cc_cover` watches a run, `cc_translating` translates wide C. `keeping` looks into
+//! libraries, `library` has a session over a file, `short` one of one line, `serving` a server, `stack` reserves the stack, `texts` has
+//! programs that come in files, `inputs` words that do, `going_on` runs that take words while they run, `translation` translates,
+//! `in_json` has work in JSON, `watching` runs that are watched, `version` the names of the program's sources.
 #![tactic(auto)]
 
+mod going_on;
 mod in_json;
+mod inputs;
 mod keeping;
 mod library;
 mod serving;
+mod short;
 mod stack;
 mod texts;
+mod translation;
 mod version;
 mod watching;
 
@@ -23,13 +28,17 @@ use cc_answers::{Persons, Telling};
 use cc_command_line::{Invocation, NoRequest, Work, read_or_tell, tell_bytes};
 use cc_descriptors::{System, take_free};
 use cc_filing::buffers;
+use cc_keeping::pack_in_file;
 use cc_submit::submit_script;
 use cc_task::{Kind, Task};
 use cc_tasks::{Done, Fault, perform_and_explain_stages, perform_into, perform_stages};
+use going_on::start_live;
 use in_json::do_work_in_json;
+use inputs::with_input;
 use keeping::{look_into, take_out};
 use library::library_session;
 use serving::serve_folder;
+use short::short_session;
 use stack::reserve_stack;
 use std::alloc::AllocError;
 use std::fs::File;
@@ -39,6 +48,7 @@ use std::rt::{Clock, Env, Files};
 use std::sync::Wait;
 use std::thread::Threads;
 use texts::{start_stages_of_texts, start_texts};
+use translation::start_translation;
 use version::print_sources;
 use watching::{start_cover, start_trace};
 
@@ -58,16 +68,20 @@ fn main(rt: HostRuntime) -> ExitCode {
                 is_quiet,
                 is_json,
                 files,
+                input,
             },
-        ) => if is_json {
-            do_work_in_json(&rt, &rt, is_quiet, work, files)
-        } else {
-            let persons = persons_at(&rt, is_quiet);
-            let is_seen = rt.stdout().is_terminal();
-            let (answers, errors) = (io::writer(&rt), rt.stderr());
-            let names = files.as_slice();
-            do_work(&rt, &rt, answers, errors, is_seen, persons, work, names)
-        },
+        ) => {
+            drop(input);
+            if is_json {
+                do_work_in_json(&rt, &rt, is_quiet, work, files)
+            } else {
+                let persons = persons_at(&rt, is_quiet);
+                let is_seen = rt.stdout().is_terminal();
+                let (answers, errors) = (io::writer(&rt), rt.stderr());
+                let names = files.as_slice();
+                do_work(&rt, &rt, answers, errors, is_seen, persons, work, names)
+            }
+        }
         Err(done) => done,
     };
     let status = match done {
@@ -90,8 +104,9 @@ fn persons_at(rt: &HostRuntime, is_quiet: bool) -> Persons {
     }
 }
 
-// What the command line asks for, once the stack that this may need is reserved; else the status, or that memory ran out.
-fn read_request<R: AllocGlobal + Env + Eprint + Print>(
+// What the command line asks for, once the stack that this may need is reserved and the words are read that are in a file; else the status, or
+// that memory ran out.
+fn read_request<R: AllocGlobal + Env + Eprint + Input + Print>(
     rt: &R,
     files: &HostRuntime,
 ) -> Result<Invocation, Result<u8, AllocError>>
@@ -114,7 +129,7 @@ fn read_request<R: AllocGlobal + Env + Eprint + Print>(
                 drop(request);
                 return Err(Err(AllocError));
             }
-            Ok(request)
+            with_input(rt, files, request)
         }
         Err(nothing) => Err(status_of(rt, files, nothing)),
     }
@@ -268,6 +283,10 @@ where
             drop(answers);
             start_stages(rt, files, kind, function, names, is_quiet, errors)
         }
+        Work::Live(asked) => start_live(rt, files, asked, names, is_quiet, answers, errors),
+        Work::Translate(asked) => {
+            start_translation(rt, files, asked, names, is_quiet, answers, errors)
+        }
         Work::Trace(asked) => start_trace(rt, files, asked, names, is_quiet, answers, errors),
         Work::Cover(asked) => start_cover(rt, files, asked, names, persons, answers, errors),
         Work::TakeOut(wanted) => {
@@ -276,6 +295,8 @@ where
         }
         Work::Keep(asked) => look_into(rt, files, &asked, persons, answers, errors),
         Work::Library(asked) => library_session(rt, files, &asked, persons, answers, errors),
+        Work::Short(asked) => { short_session(rt, files, &asked, names, persons, answers, errors) }
+        Work::Pack(asked) => pack_in_file(rt, files, &asked, is_quiet, answers, errors),
         Work::Serve(asked) => {
             drop(answers);
             serve_folder(rt, files, &asked, is_quiet, errors)

@@ -24,6 +24,7 @@ fn an_answer_that_cannot_be_written(rt: HostRuntime) -> Result<(), Fail> {
         alloc,
         &image,
         100,
+        None,
         false,
         &mut lines,
         &mut Refuses,

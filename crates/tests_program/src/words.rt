@@ -13,16 +13,18 @@ type Kept = (
     Option<u32>,
     bool,
     usize,
+    u64,
 );
 
-// Command lines of `library` with the path, the room, whether a file that is there is kept, and the number of workers.
-static LIBRARIES: [Kept; 4] = [
+// Command lines of `library` with the path, the room, whether a file that is there is kept, the number of workers, and for how long it is tried.
+static LIBRARIES: [Kept; 5] = [
     (
         &["cclib", "library", "units.disk"],
         "units.disk",
         None,
         false,
         2,
+        3,
     ),
     (
         &[
@@ -38,6 +40,7 @@ static LIBRARIES: [Kept; 4] = [
         Some(1_073_741_824),
         false,
         8,
+        3,
     ),
     (
         &["cclib", "library", "a", "--format=64", "--workers=1"],
@@ -45,6 +48,7 @@ static LIBRARIES: [Kept; 4] = [
         Some(64),
         false,
         1,
+        3,
     ),
     (
         &["cclib", "library", "a", "--if-new", "--format", "64"],
@@ -52,11 +56,20 @@ static LIBRARIES: [Kept; 4] = [
         Some(64),
         true,
         2,
+        3,
+    ),
+    (
+        &["cclib", "library", "a", "--wait", "86400"],
+        "a",
+        None,
+        false,
+        2,
+        86_400,
     ),
 ];
 
 fn asks_for_library(alloc: Global, row: &Kept) -> Result<bool, Fail> {
-    let (words, path, wanted, is_kept, count) = *row;
+    let (words, path, wanted, is_kept, count, tries) = *row;
     match line(alloc, words) {
         Ok(
             Work::Library(
@@ -67,6 +80,7 @@ fn asks_for_library(alloc: Global, row: &Kept) -> Result<bool, Fail> {
                     workers,
                     is_strict,
                     kind: Kind::Plain,
+                    wait,
                 },
             ),
         ) => Ok(
@@ -74,6 +88,7 @@ fn asks_for_library(alloc: Global, row: &Kept) -> Result<bool, Fail> {
                 && area == wanted
                 && is_if_new == is_kept
                 && workers == count
+                && wait == tries
                 && !is_strict,
         ),
         other => {
@@ -98,6 +113,7 @@ struct Asked {
     keep: u32,
     done: u64,
     patience: u32,
+    wait: u64,
 }
 
 static SERVERS: [Asked; 3] = [
@@ -109,6 +125,7 @@ static SERVERS: [Asked; 3] = [
         keep: 7,
         done: 1_073_741_824,
         patience: 600,
+        wait: 3,
     },
     Asked {
         words: &[
@@ -126,6 +143,7 @@ static SERVERS: [Asked; 3] = [
             "--done",
             "1099511627776",
             "--patience=86400",
+            "--wait=86400",
         ],
         area: Some(1_073_741_824),
         workers: 8,
@@ -133,6 +151,7 @@ static SERVERS: [Asked; 3] = [
         keep: 3650,
         done: 1_099_511_627_776,
         patience: 86_400,
+        wait: 86_400,
     },
     Asked {
         words: &[
@@ -146,6 +165,7 @@ static SERVERS: [Asked; 3] = [
             "--keep=1",
             "--done=1048576",
             "--patience=1",
+            "--wait=0",
         ],
         area: Some(64),
         workers: 1,
@@ -153,6 +173,7 @@ static SERVERS: [Asked; 3] = [
         keep: 1,
         done: 1_048_576,
         patience: 1,
+        wait: 0,
     },
 ];
 
@@ -170,6 +191,7 @@ fn asks_for_server(alloc: Global, asked: &Asked) -> bool {
                     keep,
                     done,
                     patience,
+                    wait,
                 },
             ),
         ) => {
@@ -181,6 +203,7 @@ fn asks_for_server(alloc: Global, asked: &Asked) -> bool {
                 && keep == asked.keep
                 && done == asked.done
                 && patience == asked.patience
+                && wait == asked.wait
         }
         other => {
             drop(other);

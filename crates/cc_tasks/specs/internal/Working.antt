@@ -39,7 +39,7 @@ HasNoAnswer task input old new fault = (fault ≡ Write) ⊎ IsToldFault task in
 abbrev pub matter_status : Matter → ℕ
 matter_status Text = 0
 matter_status (Wrong cause) = 0
-matter_status (Going words) = 0
+matter_status (Going words is_final) = 0
 matter_status Unsure = 1
 
 -- the answer was written, or the fault's line

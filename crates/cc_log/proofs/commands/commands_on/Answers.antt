@@ -15,6 +15,10 @@ returns-in-Ok-clause-commands g c =
     (λ commands read h. record { area = j.area; bodies = j.bodies; holds = c.in-Ok.ensures.records h; read = subst (λ (bs : List (List ℕ)). AreRead bs commands.items) same read }) c.accepted.result
     c.accepted.ensures.commands
 
+pub returns-in-Ok-clause-accepted : goal.returns-in-Ok-clause-accepted
+returns-in-Ok-clause-accepted g c =
+    of_ok {P = λ commands. AreRead c.deref.result.now commands.items} (λ commands read. read.accepted) c.accepted.result c.accepted.ensures.commands
+
 pub returns-in-Ok-clause-refused : goal.returns-in-Ok-clause-refused
 returns-in-Ok-clause-refused g c =
     let D = g.D.Disk in

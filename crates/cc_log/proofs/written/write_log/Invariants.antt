@@ -6,4 +6,4 @@ use Rattle.cc_log.specs.Written.{log_text}
 use Rattle.cc_log.proofs.written.write_log.Given as goal
 
 abbrev pub invariant-loop-i : goal.invariant-loop-i
-invariant-loop-i g l = Appends (g.W.Write.contents l.initial.writer) (g.W.Write.contents l.writer) (log_text (option_map (λ n. n.now) l.name) (take l.i l.commands))
+invariant-loop-i g l = Appends (g.W.Write.contents l.initial.writer) (g.W.Write.contents l.writer) (log_text l.is_hashed (option_map (λ n. n.now) l.name) (take l.i l.commands))

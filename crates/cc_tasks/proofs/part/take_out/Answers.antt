@@ -13,6 +13,11 @@ returns-after-found-clause-part g c =
     of_ok {P = λ bytes. IsPartIn c.units.result.now c.args.name.now c.args.part bytes.items} (λ bytes is h. (c.units.result.now, recovers h, is))
     c.part_in-found.result c.part_in-found.ensures.part
 
+pub returns-after-found-clause-some : goal.returns-after-found-clause-some
+returns-after-found-clause-some g c =
+    of_ok {P = λ bytes. IsPartIn c.units.result.now c.args.name.now c.args.part bytes.items} (λ bytes is. (c.units.result.now, is))
+    c.part_in-found.result c.part_in-found.ensures.part
+
 pub returns-after-found-clause-refused : goal.returns-after-found-clause-refused
 returns-after-found-clause-refused g c =
     let D = g.D.Disk in

@@ -1,6 +1,0 @@
--- Nothing has been read yet.
-use Rattle.std.specs.Io.KnownBytes.{Keeps}
-use Rattle.cc_call.proofs.reading.next_byte.Given as goal
-
-abbrev pub invariant-loop : goal.invariant-loop
-invariant-loop g l = Keeps (g.R.Read.remaining l.initial.reader) (g.R.Read.remaining l.reader)

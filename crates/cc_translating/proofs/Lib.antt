@@ -1,0 +1,2 @@
+-- what the command writes for what it reads
+pub mod Telling
