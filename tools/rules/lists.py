@@ -71,7 +71,7 @@ cd "$(dirname "$0")/UP" && mkdir -p out/rlib && printf '#!/bin/sh\\necho "MARK$*
 """
 UNCHECKED, STAYS = "proofs, which have not been checked here", "what it writes stays"
 # The commands that write files.
-WRITERS = {"library", "serve", "submit", "restore", "copy"}
+WRITERS = {"library", "add", "replace", "withdraw", "compact", "unpack", "serve", "submit", "restore", "copy"}
 
 
 def started_anew(clone, kit, words, **more):
