@@ -119,7 +119,7 @@ def plants():
         ("launcher", changed("cclib", ("      -*) continue ;;\n", "")), "./cclib --json --quiet check is not built and run"),
         ("launcher", changed("cclib", ("names=$(commands) ", "names=$(commands | head -3) ")), "./cclib call a word is not built and run"),
         ("launcher", changed("docs/help.txt", ("\n  restore ", "\n  planted ")), "the help has no command 'restore'"),
-        ("launcher", changed("cclib", ("library | serve |", "library |")), "./cclib serve a word says"),
+        ("launcher", changed("cclib", ("unpack | serve |", "unpack |")), "./cclib serve a word says"),
         ("launcher", changed("cclib", ('  say "compiled without its proofs', '  : "compiled without its proofs')), "./cclib check a word says ''"),
         ("launcher", changed("cclib", ('[ "${CCLIB-}" != proved ] || only=proved', ":")), "./cclib check with {'CCLIB': 'proved'} runs"),
         ("launcher", changed("cclib", ("--proved) shift; only=proved ;;", "--proved) shift ;;")), "./cclib --proved check with {} runs"),
