@@ -1,0 +1,3 @@
+-- Definitions that only proofs use.
+-- what a walk has found
+pub mod Walked
