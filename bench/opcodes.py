@@ -1,7 +1,7 @@
 #!/usr/bin/env python3
 """Shows what a turn of a loop over opcodes costs, by the opcode: a switch of so many cases in a loop.
 
-opcodes.py [CASES]: a program of wide C with CASES cases (200), each of which adds a number of its own and ends with `break`; their labels are 0, 1,
+opcodes.py [CASES]: a program of wide C with CASES cases (200); each adds a number of its own and ends with `break`. Their labels are 0, 1,
 2 and so on, then labels that are far apart, then these in a random order. It is translated, compiled and run 100 turns with one opcode, for some
 forty opcodes and one that no case has, and the instructions of a turn are printed: those of the first case, of the last, the fewest, the most.
 
